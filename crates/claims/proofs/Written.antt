@@ -1,0 +1,254 @@
+-- What stands where in a written image, and that the reader finds nothing wrong with it.
+use mathlib.Core.Path.{_≡_, refl, sym, ap, _∙_}
+use mathlib.Core.Bool.{Bool, true, false, not}
+use mathlib.Core.List.{List, [], _∷_, _++_, append-assoc}
+use Prim.Native.Nat.{ℕ, zero, suc, _+_, _-_, _*_, _^_, _≤_, _<_}
+use native.Mathlib.Omega.{arith}
+use borrow.Author.Tests.{eq-eqb, leb-true}
+use lib.Dec.{eqb, ltb, leb, ltb→lt}
+use lib.ListN.{length, getD, take, drop, replicate, length-append, length-replicate}
+use lib.Seq.{take-at, drop-at, take-all}
+use Rattle.octets.specs.Choice.{pick}
+use Rattle.octets.specs.Number.{numberOf, bytesOf, part, numberAt}
+use Rattle.octets.specs.Search.{allAre}
+use Rattle.octets.proofs.Numbers.{length-bytesOf, number-of-bytes, each-bytesOf}
+use Rattle.octets.proofs.Parts.{part-there, from-next, each-none, each-cons, each-append, each-replicate}
+use Rattle.octets.proofs.Searching.{pick-both, replicate-all-are, none-first, none-some}
+use Rattle.octets.proofs.Table.{test-at}
+use Rattle.checksum.specs.Checksum.{checksumOf}
+use Rattle.checksum.proofs.Laws.{checksum-of-fits}
+use Rattle.settings.specs.declared.Shown.{Shown}
+use Rattle.settings.specs.declared.Settings.{Settings}
+use Rattle.settings.specs.Layout.{form1, bodiesEnd, offsetOf, sumOf, tableOf, placeOf}
+use Rattle.settings.specs.Table.{tableOf01, layout-gives-table, filler-from-126}
+use Rattle.settings.specs.Values.{isAllowed}
+use Rattle.settings.specs.Image.{pairsOf, valuesOf, numbersOf, bodiesOf, fillerOf, frontOf, imageOf}
+use Rattle.settings.specs.Answer.{accepted}
+use Rattle.settings.specs.Reader.{bodyIn, shownIn, settingsIn, isBlank, checksumDiffers, formUnknown, fieldDiffers, entryDiffers, differingEntry, fillerDiffers, valueNotAllowed, readWritten, readOf}
+use Rattle.settings.proofs.WriterLaws.{length-table, length-pairs, length-front, length-bodies}
+use Rattle.claims.specs.Held.{Held}
+use Rattle.claims.proofs.Pairs.{pairs-at, each-pairs}
+
+-- each number of the table fits two bytes: one test over the table
+table-fits : (i : ℕ) → i < length (tableOf form1) → getD (tableOf form1) i 0 < 65536
+table-fits = rw layout-gives-table (λ i h. ltb→lt (getD tableOf01 i 0) 65536 (test-at (λ k n. ltb n 65536) 0 tableOf01 tt i h))
+
+-- values that are allowed are bytes
+pub allowed-values : (shown : Shown) → isAllowed shown ≡ true → (shown .«reset_mode» ≤ 2) × (shown .alert ≤ 2) × (shown .«settings_protected» ≤ 1)
+unfolding isAllowed
+allowed-values shown h =
+    let mode = pick-both (leb (shown .«reset_mode») 2) (pick (leb (shown .alert) 2) (leb (shown .«settings_protected») 1) false) h in
+    let rest = pick-both (leb (shown .alert) 2) (leb (shown .«settings_protected») 1) (mode .1) in
+    (leb-true (shown .«reset_mode») 2 (mode .0), leb-true (shown .alert) 2 (rest .0), leb-true (shown .«settings_protected») 1 (rest .1))
+
+module _ (s : Settings) (held : Held s) (allowed : isAllowed (s .shown) ≡ true) where
+  front : List ℕ
+  front = frontOf form1 s
+
+  image : List ℕ
+  image = imageOf form1 s
+
+  front-size : length front ≡ 1020
+  unfolding front
+  front-size = length-front s (held .password .size) (held .reset .size) (held .protection .size)
+
+  -- ---- the image from one of its parts on
+
+  sum : List ℕ
+  sum = bytesOf 4 (checksumOf front)
+
+  table : List ℕ
+  table = pairsOf (tableOf form1)
+
+  table-size : length table ≡ 52
+  unfolding table
+  table-size = length-pairs (tableOf form1) ∙ omega (arith, length-table form1)
+
+  values : List ℕ
+  values = valuesOf (s .shown)
+
+  ids : List ℕ
+  ids = bytesOf 4 (s .shown .«bcr_id») ++ bytesOf 4 (s .shown .«bsl_id»)
+
+  pointer : List ℕ
+  pointer = bytesOf 4 (s .shown .«version_pointer»)
+
+  values-size : length values ≡ 6
+  unfolding values bytesOf
+  values-size = refl
+
+  ids-size : length ids ≡ 8
+  unfolding ids bytesOf
+  ids-size = refl
+
+  pointer-size : length pointer ≡ 4
+  unfolding pointer
+  pointer-size = length-bytesOf 4 (s .shown .«version_pointer»)
+
+  -- what follows each place where a body begins
+  abbrev after-bodies : List ℕ
+  after-bodies = fillerOf form1 ++ sum
+
+  abbrev after-118 : List ℕ
+  after-118 = s .protection ++ after-bodies
+
+  abbrev after-114 : List ℕ
+  after-114 = pointer ++ after-118
+
+  abbrev after-106 : List ℕ
+  after-106 = ids ++ after-114
+
+  abbrev after-100 : List ℕ
+  after-100 = values ++ after-106
+
+  abbrev after-84 : List ℕ
+  after-84 = s .«reset_password» ++ after-100
+
+  from-52 : drop 52 image ≡ s .password ++ after-84
+  unfolding image imageOf front sum table values ids pointer bodiesOf
+  from-52 = simp append-assoc (drop-at table _ 52 table-size)
+
+  from-84 : drop 84 image ≡ after-84
+  from-84 = from-next image 52 32 (s .password) after-84 from-52 (held .password .size)
+
+  from-100 : drop 100 image ≡ after-100
+  from-100 = from-next image 84 16 (s .«reset_password») after-100 from-84 (held .reset .size)
+
+  from-106 : drop 106 image ≡ after-106
+  from-106 = from-next image 100 6 values after-106 from-100 values-size
+
+  from-114 : drop 114 image ≡ after-114
+  from-114 = from-next image 106 8 ids after-114 from-106 ids-size
+
+  from-118 : drop 118 image ≡ after-118
+  from-118 = from-next image 114 4 pointer after-118 from-114 pointer-size
+
+  from-126 : drop 126 image ≡ after-bodies
+  from-126 = from-next image 118 8 (s .protection) after-bodies from-118 (held .protection .size)
+
+  -- ---- what the reader reads
+
+  readout-back : numberAt 2 2 values ≡ s .shown .readout
+  unfolding values bytesOf
+  readout-back = number-of-bytes 2 (s .shown .readout) (held .shown .readout)
+
+  bcr-back : numberAt 0 4 ids ≡ s .shown .«bcr_id»
+  unfolding ids bytesOf
+  bcr-back = number-of-bytes 4 (s .shown .«bcr_id») (held .shown .bcr)
+
+  bsl-back : numberAt 4 4 ids ≡ s .shown .«bsl_id»
+  unfolding ids bytesOf
+  bsl-back = number-of-bytes 4 (s .shown .«bsl_id») (held .shown .bsl)
+
+  pointer-back : numberAt 0 4 pointer ≡ s .shown .«version_pointer»
+  unfolding pointer bytesOf
+  pointer-back = number-of-bytes 4 (s .shown .«version_pointer») (held .shown .pointer)
+
+  values-there : part 100 6 image ≡ values
+  values-there = part-there image 100 6 values after-106 from-100 values-size
+
+  shown-back : shownIn form1 image ≡ s .shown
+  unfolding shownIn offsetOf sumOf values bytesOf
+  shown-back =
+      rw (part-there image 106 8 ids after-114 from-106 ids-size, part-there image 114 4 pointer after-118 from-114 pointer-size, values-there, bcr-back, bsl-back, pointer-back, readout-back)
+
+  settings-back : settingsIn form1 image ≡ s
+  unfolding settingsIn offsetOf sumOf
+  settings-back =
+      rw (
+        shown-back,
+        part-there image 118 8 (s .protection) after-bodies from-118 (held .protection .size),
+        part-there image 52 32 (s .password) after-84 from-52 (held .password .size),
+        part-there image 84 16 (s .«reset_password») after-100 from-84 (held .reset .size),
+      )
+
+  -- ---- what the reader looks for
+
+  image-size : length image ≡ 1024
+  unfolding image imageOf front
+  image-size = length-append front (bytesOf 4 (checksumOf front)) ∙ omega (arith, front-size, length-bytesOf 4 (checksumOf front))
+
+  not-blank : isBlank image ≡ false
+  unfolding image imageOf pairsOf tableOf bytesOf allAre pick
+  not-blank = refl
+
+  values-each : (k : ℕ) → getD (valuesOf (s .shown)) k 0 < 256
+  values-each =
+      let v = allowed-values (s .shown) allowed in
+      let shown = s .shown in
+      each-cons (shown .«reset_mode») (shown .alert ∷ (bytesOf 2 (shown .readout) ++ (shown .«settings_protected» ∷ 0 ∷ []))) (omega arith)
+      (each-cons (shown .alert) (bytesOf 2 (shown .readout) ++ (shown .«settings_protected» ∷ 0 ∷ [])) (omega arith)
+      (each-append (bytesOf 2 (shown .readout)) (shown .«settings_protected» ∷ 0 ∷ []) (each-bytesOf 2 (shown .readout))
+      (each-cons (shown .«settings_protected») (0 ∷ []) (omega arith) (each-cons 0 [] (omega arith) each-none))))
+
+  numbers-each : (k : ℕ) → getD (numbersOf (s .shown)) k 0 < 256
+  numbers-each =
+      let shown = s .shown in
+      each-append (bytesOf 4 (shown .«bcr_id»)) (bytesOf 4 (shown .«bsl_id») ++ bytesOf 4 (shown .«version_pointer»)) (each-bytesOf 4 (shown .«bcr_id»))
+      (each-append (bytesOf 4 (shown .«bsl_id»)) (bytesOf 4 (shown .«version_pointer»)) (each-bytesOf 4 (shown .«bsl_id»)) (each-bytesOf 4 (shown .«version_pointer»)))
+
+  bodies-each : (k : ℕ) → getD (bodiesOf s) k 0 < 256
+  unfolding bodiesOf
+  bodies-each =
+      each-append (s .password) (s .«reset_password» ++ (valuesOf (s .shown) ++ (numbersOf (s .shown) ++ s .protection))) (held .password .each)
+      (each-append (s .«reset_password») (valuesOf (s .shown) ++ (numbersOf (s .shown) ++ s .protection)) (held .reset .each)
+      (each-append (valuesOf (s .shown)) (numbersOf (s .shown) ++ s .protection) values-each
+      (each-append (numbersOf (s .shown)) (s .protection) numbers-each (held .protection .each))))
+
+  front-each : (k : ℕ) → getD front k 0 < 256
+  unfolding front
+  front-each =
+      each-append (pairsOf (tableOf form1)) (bodiesOf s ++ fillerOf form1) (each-pairs (tableOf form1))
+      (each-append (bodiesOf s) (fillerOf form1) bodies-each (each-replicate (1020 - bodiesEnd form1) 255 (omega arith)))
+
+  image-is : image ≡ front ++ sum
+  unfolding image imageOf front sum
+  image-is = refl
+
+  checksum-same : checksumDiffers image ≡ false
+  unfolding checksumDiffers sum
+  checksum-same =
+      let there : numberAt 1020 4 (front ++ sum) ≡ checksumOf front =
+      ap (λ (l : List ℕ). numberOf (take 4 l)) (drop-at front sum 1020 front-size)
+      ∙ ap numberOf (take-all 4 sum (omega (arith, length-bytesOf 4 (checksumOf front))))
+      ∙ number-of-bytes 4 (checksumOf front) (checksum-of-fits front front-each) in
+      rw (image-is, there, take-at front sum 1020 front-size, eq-eqb (checksumOf front) (checksumOf front) refl)
+
+  table-there : (i : ℕ) → i < 26 → numberAt (2 * i) 2 image ≡ getD (tableOf form1) i 0
+  unfolding image imageOf front
+  table-there i h =
+      rw (append-assoc (pairsOf (tableOf form1)) (bodiesOf s ++ fillerOf form1) (bytesOf 4 (checksumOf front)))
+      (pairs-at (tableOf form1) ((bodiesOf s ++ fillerOf form1) ++ bytesOf 4 (checksumOf front)) table-fits i (omega (arith, length-table form1)))
+
+  form-known : formUnknown form1 image ≡ false
+  unfolding formUnknown tableOf pick
+  form-known = rw (table-there 0 (omega arith), table-there 1 (omega arith))
+
+  no-entry-differs : differingEntry form1 image ≡ 0
+  unfolding differingEntry entryDiffers fieldDiffers
+  no-entry-differs =
+      none-first (entryDiffers form1 image) 1 6 (λ n l u.
+      none-some (fieldDiffers form1 image n) 0 4 (λ f k v.
+      rw (table-there (placeOf n f) (omega arith), eq-eqb (getD (tableOf form1) (placeOf n f) 0) (getD (tableOf form1) (placeOf n f) 0) refl)))
+
+  filler-size : length (fillerOf form1) ≡ 894
+  filler-size = length-replicate (1020 - bodiesEnd form1) 255 ∙ omega (arith, filler-from-126)
+
+  filler-same : fillerDiffers form1 image ≡ false
+  unfolding fillerDiffers
+  filler-same =
+      rw (filler-from-126, part-there image 126 894 (fillerOf form1) sum from-126 filler-size, filler-from-126, replicate-all-are 255 894)
+
+  values-allowed : valueNotAllowed form1 image ≡ false
+  unfolding valueNotAllowed offsetOf sumOf values bytesOf pick
+  values-allowed = rw (shown-back, allowed, values-there)
+
+  -- the reader accepts the image, and reads the settings
+  reads-back : readOf form1 image ≡ accepted s
+  unfolding readOf readWritten pick
+  reads-back =
+      rw (eq-eqb (length image) 1024 image-size, not-blank, checksum-same, form-known, no-entry-differs, filler-same, values-allowed, settings-back)
+
+  pub image-reads : readOf form1 (imageOf form1 s) ≡ accepted s
+  unfolding image
+  image-reads = reads-back

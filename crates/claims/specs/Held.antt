@@ -1,0 +1,24 @@
+-- Which values a struct of the code can hold: each array has its length and each number fits its type.
+use Prim.Native.Nat.{ℕ, _^_, _<_}
+use mathlib.Core.Path.{_≡_}
+use mathlib.Core.List.{List}
+use lib.ListN.{length, getD}
+use Rattle.settings.specs.declared.Shown.{Shown}
+use Rattle.settings.specs.declared.Settings.{Settings}
+
+-- bytes: so many numbers below 256
+pub record Bytes (count : ℕ) (bytes : List ℕ) : Type 0 where
+  pub size : length bytes ≡ count
+  pub each : (k : ℕ) → getD bytes k 0 < 256
+
+pub record HeldShown (shown : Shown) : Type 0 where
+  pub readout : shown .readout < 256 ^ 2
+  pub bcr : shown .«bcr_id» < 256 ^ 4
+  pub bsl : shown .«bsl_id» < 256 ^ 4
+  pub pointer : shown .«version_pointer» < 256 ^ 4
+
+pub record Held (settings : Settings) : Type 0 where
+  pub shown : HeldShown (settings .shown)
+  pub protection : Bytes 8 (settings .protection)
+  pub password : Bytes 32 (settings .password)
+  pub reset : Bytes 16 (settings .«reset_password»)

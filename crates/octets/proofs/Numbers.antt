@@ -1,0 +1,61 @@
+-- A number and its bytes give each other back.
+use mathlib.Core.Path.{_≡_, refl, sym, ap, ap₂, _∙_}
+use mathlib.Core.List.{List, [], _∷_, _++_}
+use Prim.Native.Nat.{ℕ, zero, suc, _+_, _-_, _*_, _/_, _%_, _^_, _≤_, _<_}
+use native.Mathlib.Nat.{pow-suc, div-lt-iff-lt-mul, mod-lt, zero-lt-suc}
+use native.Mathlib.Omega.{arith}
+use lib.ListN.{length, getD, take, drop}
+use Rattle.octets.specs.Number.{numberOf, bytesOf, part, numberAt}
+
+pub length-bytesOf : (width number : ℕ) → length (bytesOf width number) ≡ width
+unfolding bytesOf
+length-bytesOf zero number = refl
+length-bytesOf (suc width) number = ap suc (length-bytesOf width (number / 256))
+
+-- the number of the bytes of a number that fits them
+pub number-of-bytes : (width number : ℕ) → number < 256 ^ width → numberOf (bytesOf width number) ≡ number
+unfolding numberOf bytesOf
+number-of-bytes zero number h = omega arith
+number-of-bytes (suc width) number h =
+    let left : number / 256 < 256 ^ width = div-lt-iff-lt-mul (zero-lt-suc 255) .1 (rw pow-suc at h) in
+    omega (arith, number-of-bytes width (number / 256) left)
+
+-- the bytes of the number of some bytes
+pub bytes-of-number : (bytes : List ℕ) → ((k : ℕ) → getD bytes k 0 < 256) → bytesOf (length bytes) (numberOf bytes) ≡ bytes
+unfolding numberOf bytesOf
+bytes-of-number [] h = refl
+bytes-of-number (b ∷ bytes) h =
+    let low : b < 256 = h 0 in
+    let m : (b + 256 * numberOf bytes) % 256 ≡ b = omega arith in
+    let d : (b + 256 * numberOf bytes) / 256 ≡ numberOf bytes = omega arith in
+    ap₂ (λ (x : ℕ) (xs : List ℕ). x ∷ xs) m (ap (bytesOf (length bytes)) d ∙ bytes-of-number bytes (λ k. h (suc k)))
+
+-- so many bytes hold no larger number
+pub number-fits : (bytes : List ℕ) → ((k : ℕ) → getD bytes k 0 < 256) → numberOf bytes < 256 ^ length bytes
+unfolding numberOf
+number-fits [] h = omega arith
+number-fits (b ∷ bytes) h =
+    let low : b < 256 = h 0 in
+    rw pow-suc (omega (arith, number-fits bytes (λ k. h (suc k))))
+
+-- two bytes by themselves, and four as two twos
+pub two-bytes : (bytes : List ℕ) → numberOf (take 2 bytes) ≡ getD (take 2 bytes) 0 0 + 256 * getD (take 2 bytes) 1 0
+unfolding numberOf
+two-bytes [] = refl
+two-bytes (a ∷ []) = refl
+two-bytes (a ∷ b ∷ bytes) = omega arith
+
+pub two-twos : (bytes : List ℕ) → numberOf (take 4 bytes) ≡ numberAt 0 2 (take 4 bytes) + 65536 * numberAt 2 2 (take 4 bytes)
+unfolding numberOf
+two-twos [] = refl
+two-twos (a ∷ []) = omega arith
+two-twos (a ∷ b ∷ []) = omega arith
+two-twos (a ∷ b ∷ c ∷ []) = omega arith
+two-twos (a ∷ b ∷ c ∷ d ∷ bytes) = omega arith
+
+-- each byte of a number is one
+pub each-bytesOf : (width number : ℕ) → (k : ℕ) → getD (bytesOf width number) k 0 < 256
+unfolding bytesOf
+each-bytesOf zero number k = omega arith
+each-bytesOf (suc width) number zero = mod-lt number (zero-lt-suc 255)
+each-bytesOf (suc width) number (suc k) = each-bytesOf width (number / 256) k

@@ -1,0 +1,62 @@
+// Bytes read: one, some, numbers of two and four, and a test at each.
+ghost use mathlib.Core.Path.{_≡_};
+ghost use Prim.Native.Nat.{min};
+ghost use lib.ListN.{getD};
+ghost use Rattle.octets.specs.Number.{part, numberAt};
+ghost use Rattle.octets.specs.Search.{allAre};
+
+// The lesser of two numbers.
+fn least(a: usize, b: usize) -> usize
+    ensures { λ r. ⌜ r ≡ min a b ⌝ }
+{
+    if a < b { a } else { b }
+}
+
+// The byte at a place, 0 past the end.
+pub fn byte_at(bytes: &[u8], at: usize) -> u8
+    ensures { λ r. ⌜ r ≡ getD (now (bytes .entry)) at 0 ⌝ }
+{
+    if at < bytes.len() { bytes[at] } else { 0 }
+}
+
+// So many bytes from a place on, or as many as there are.
+pub fn part_of(bytes: &[u8], at: usize, count: usize) -> &[u8]
+    ensures { λ r. ⌜ now r ≡ part at count (now (bytes .entry)) ⌝ }
+{
+    let size = bytes.len();
+    let first = least(at, size);
+    let end = first + least(count, size - first);
+    &bytes[first..end]
+}
+
+// The two-byte number at a place; bytes past the end count as 0.
+pub fn number16_at(bytes: &[u8], at: usize) -> u16
+    ensures { λ r. ⌜ r ≡ numberAt at 2 (now (bytes .entry)) ⌝ }
+{
+    let two = part_of(bytes, at, 2);
+    byte_at(two, 0) as u16 + 256 * (byte_at(two, 1) as u16)
+}
+
+// The four-byte number at a place; bytes past the end count as 0.
+pub fn number32_at(bytes: &[u8], at: usize) -> u32
+    ensures { λ r. ⌜ r ≡ numberAt at 4 (now (bytes .entry)) ⌝ }
+{
+    let four = part_of(bytes, at, 4);
+    let low = number16_at(four, 0);
+    let high = number16_at(four, 2);
+    low as u32 + 65536 * (high as u32)
+}
+
+// Whether every byte is the given one.
+pub fn all_are(value: u8, bytes: &[u8]) -> bool
+    ensures { λ r. ⌜ r ≡ allAre value (now (bytes .entry)) ⌝ }
+{
+    let mut i = 0;
+    while i < bytes.len() {
+        if bytes[i] != value {
+            return false;
+        }
+        i += 1;
+    }
+    true
+}

@@ -1,0 +1,19 @@
+-- `settings::places::entry_field` meets its contract: the four fields one by one, and zeros after them.
+use native.Mathlib.Omega.{arith}
+use borrow.Author.Needs.{needs}
+use mathlib.Core.Path.{sym}
+use Rattle.settings.proofs.LayoutLaws.{field-zero}
+use Rattle.settings.proofs.places.entry_field.Statement.{statement}
+use Rattle.settings.proofs.places.entry_field.Tie as tie
+
+pub entry-field-spec : {M : Type 1} → statement M
+entry-field-spec =
+    tie.close
+    (tie.spec
+    (λ c. search needs)
+    (λ c κs. search needs)
+    (λ c κs. search needs)
+    (λ c. search needs)
+    (λ c. simp (c .before .match .keys2, c .offset-of .ensures))
+    (λ c. simp (c .before .match .keys3, c .length-of .ensures))
+    (λ c. let a = c .before .args in sym (field-zero (a .layout) (a .entry) (a .field) (omega arith))))

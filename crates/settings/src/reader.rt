@@ -1,0 +1,195 @@
+// Reading an image: the refusals of document 01 in their order, and then what the bodies say.
+ghost use mathlib.Core.Path.{_≡_};
+ghost use Prim.Native.Nat.{_<_, _≤_};
+ghost use lib.ListN.{length};
+ghost use Rattle.settings.specs.Layout.{form1};
+ghost use Rattle.settings.specs.Answer.{readTold, readNumber, readEntry, refusedAt, accepted};
+ghost use Rattle.settings.specs.Reader.{bodyIn, shownIn, settingsIn, checksumDiffers, formUnknown, differingEntry, fillerDiffers, valueNotAllowed, readWritten, readOf};
+use crate::CHECKSUM_AT;
+use crate::IMAGE_SIZE;
+use crate::Layout;
+use crate::ReadAnswer;
+use crate::Reading;
+use crate::Settings;
+use crate::Shown;
+use crate::places;
+use crate::values;
+
+// The body of an entry.
+fn body_in(layout: Layout, entry: usize, image: &[u8]) -> &[u8]
+    requires { ⌜ (0 < entry) × (entry ≤ 6) ⌝ }
+    ensures { λ r. ⌜ now r ≡ bodyIn layout entry (now (image .entry)) ⌝ }
+{
+    let offset = places::offset_of(layout, entry);
+    let length = places::length_of(layout, entry);
+    octets::part_of(image, offset as usize, length as usize)
+}
+
+// What bodies 3, 4 and 5 say.
+fn shown_in(layout: Layout, image: &[u8]) -> Shown
+    ensures { λ r. ⌜ r ≡ shownIn layout (now (image .entry)) ⌝ }
+{
+    let values = body_in(layout, 3, image);
+    let ids = body_in(layout, 4, image);
+    let pointer = body_in(layout, 5, image);
+    Shown {
+        reset_mode: octets::byte_at(values, 0),
+        alert: octets::byte_at(values, 1),
+        readout: octets::number16_at(values, 2),
+        settings_protected: octets::byte_at(values, 4),
+        bcr_id: octets::number32_at(ids, 0),
+        bsl_id: octets::number32_at(ids, 4),
+        version_pointer: octets::number32_at(pointer, 0),
+    }
+}
+
+// Arrays of the lengths that the settings have.
+fn password_of(bytes: &[u8]) -> [u8; 32]
+    requires { ⌜ length (now bytes) ≡ 32 ⌝ }
+    ensures { λ r. ⌜ r ≡ now (bytes .entry) ⌝ }
+{
+    let mut array = [0u8; 32];
+    stores::put(&mut array, 0, bytes);
+    array
+}
+
+fn reset_password_of(bytes: &[u8]) -> [u8; 16]
+    requires { ⌜ length (now bytes) ≡ 16 ⌝ }
+    ensures { λ r. ⌜ r ≡ now (bytes .entry) ⌝ }
+{
+    let mut array = [0u8; 16];
+    stores::put(&mut array, 0, bytes);
+    array
+}
+
+fn protection_of(bytes: &[u8]) -> [u8; 8]
+    requires { ⌜ length (now bytes) ≡ 8 ⌝ }
+    ensures { λ r. ⌜ r ≡ now (bytes .entry) ⌝ }
+{
+    let mut array = [0u8; 8];
+    stores::put(&mut array, 0, bytes);
+    array
+}
+
+// What all the bodies say.
+fn settings_in(layout: Layout, image: &[u8]) -> Settings
+    requires { ⌜ (layout ≡ form1) × (length (now image) ≡ 1024) ⌝ }
+    ensures { λ r. ⌜ r ≡ settingsIn layout (now (image .entry)) ⌝ }
+{
+    let shown = shown_in(layout, image);
+    let protection = protection_of(body_in(layout, 6, image));
+    let password = password_of(body_in(layout, 1, image));
+    let reset_password = reset_password_of(body_in(layout, 2, image));
+    Settings {
+        shown,
+        protection,
+        password,
+        reset_password,
+    }
+}
+
+fn checksum_differs(image: &[u8]) -> bool
+    requires { ⌜ length (now image) ≡ 1024 ⌝ }
+    ensures { λ r. ⌜ r ≡ checksumDiffers (now (image .entry)) ⌝ }
+{
+    octets::number32_at(image, CHECKSUM_AT) != checksum::checksum_of(&image[..CHECKSUM_AT])
+}
+
+fn form_unknown(layout: Layout, image: &[u8]) -> bool
+    ensures { λ r. ⌜ r ≡ formUnknown layout (now (image .entry)) ⌝ }
+{
+    if octets::number16_at(image, 0) != layout.form {
+        return true;
+    }
+    octets::number16_at(image, 2) != places::ENTRIES as u16
+}
+
+// The number of the first entry that differs from the table, counted from 1; 0 where none does.
+fn differing_entry(layout: Layout, image: &[u8]) -> usize
+    ensures { λ r. ⌜ r ≡ differingEntry layout (now (image .entry)) ⌝ }
+{
+    let mut passed = 0;
+    let differing = 'search: loop {
+        if places::ENTRIES <= passed {
+            break 'search 0;
+        }
+        for field in 0..4 {
+            let place = 2 + 4 * passed + field;
+            if octets::number16_at(image, 2 * place) != places::table_number(layout, place) {
+                break 'search passed + 1;
+            }
+        }
+        passed += 1;
+    };
+    differing
+}
+
+fn filler_differs(layout: Layout, image: &[u8]) -> bool
+    requires { ⌜ layout ≡ form1 ⌝ }
+    ensures { λ r. ⌜ r ≡ fillerDiffers layout (now (image .entry)) ⌝ }
+{
+    let from = places::offset_of(layout, places::ENTRIES + 1) as usize;
+    !octets::all_are(0xFF, octets::part_of(image, from, CHECKSUM_AT - from))
+}
+
+fn value_not_allowed(layout: Layout, image: &[u8]) -> bool
+    ensures { λ r. ⌜ r ≡ valueNotAllowed layout (now (image .entry)) ⌝ }
+{
+    if !values::are_allowed(shown_in(layout, image)) {
+        return true;
+    }
+    octets::byte_at(body_in(layout, 3, image), 5) != 0
+}
+
+fn refused(answer: ReadAnswer) -> Reading
+    ensures { λ r. ⌜ readTold r ≡ refusedAt (readNumber answer) (readEntry answer) ⌝ }
+{
+    let settings = values::none();
+    Reading { answer, settings }
+}
+
+fn accepting(settings: Settings) -> Reading
+    ensures { λ r. ⌜ readTold r ≡ accepted settings ⌝ }
+{
+    Reading {
+        answer: ReadAnswer::Accepted,
+        settings,
+    }
+}
+
+// Reads an image that is not blank.
+fn read_written(layout: Layout, image: &[u8]) -> Reading
+    requires { ⌜ (layout ≡ form1) × (length (now image) ≡ 1024) ⌝ }
+    ensures { λ r. ⌜ readTold r ≡ readWritten layout (now (image .entry)) ⌝ }
+{
+    if checksum_differs(image) {
+        return refused(ReadAnswer::ChecksumDiffers);
+    }
+    if form_unknown(layout, image) {
+        return refused(ReadAnswer::FormUnknown);
+    }
+    let entry = differing_entry(layout, image);
+    if entry != 0 {
+        return refused(ReadAnswer::EntryDiffers(entry));
+    }
+    if filler_differs(layout, image) {
+        return refused(ReadAnswer::FillerDiffers);
+    }
+    if value_not_allowed(layout, image) {
+        return refused(ReadAnswer::ValueNotAllowed);
+    }
+    accepting(settings_in(layout, image))
+}
+
+// Reads an image: the first refusal that applies, or the settings.
+pub fn read(image: &[u8]) -> Reading
+    ensures { λ r. ⌜ readTold r ≡ readOf form1 (now (image .entry)) ⌝ }
+{
+    if image.len() != IMAGE_SIZE {
+        return refused(ReadAnswer::SizeWrong);
+    }
+    if octets::all_are(0xFF, image) {
+        return accepting(values::blank());
+    }
+    read_written(places::form_1(), image)
+}
