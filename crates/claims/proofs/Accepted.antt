@@ -1,25 +1,21 @@
 -- What the reader's tests say of an accepted image: its parts are those that the writer would put there.
-use mathlib.Core.Path.{_≡_, refl, sym, ap, ap₂, _∙_}
-use mathlib.Core.Bool.{Bool, true, false, not}
-use mathlib.Core.List.{List, [], _∷_, _++_, append-assoc}
-use mathlib.Core.Logic.{by-cases}
+use mathlib.Core.Path.{_≡_, sym, ap, ap₂, _∙_}
+use mathlib.Core.Bool.{true, false}
+use mathlib.Core.List.{List, [], _∷_, _++_}
 use Prim.Native.Nat.{ℕ, zero, suc, _+_, _-_, _*_, _/_, _%_, _≤_, _<_}
-use native.Mathlib.Decide.{decLt}
 use native.Mathlib.Omega.{arith}
 use borrow.Author.Tests.{eqb-true, not-false}
 use lib.Dec.{eqb}
-use lib.ListN.{length, getD, take, drop, replicate, take-append-drop}
+use lib.ListN.{length, getD, take}
 use lib.Seq.{take-all}
-use Rattle.octets.specs.Choice.{pick}
 use Rattle.octets.specs.Number.{numberOf, bytesOf, part, numberAt}
 use Rattle.octets.specs.Search.{allAre}
 use Rattle.octets.proofs.Numbers.{bytes-of-number}
 use Rattle.octets.proofs.Parts.{length-part, parts-join, part-of-part, each-part}
 use Rattle.octets.proofs.Searching.{pick-both, all-are-replicate, first-none, some-none}
 use Rattle.checksum.specs.Checksum.{checksumOf}
-use Rattle.settings.specs.Layout.{form1, bodiesEnd, offsetOf, sumOf, tableOf, placeOf}
+use Rattle.settings.specs.Layout.{form1, offsetOf, sumOf, tableOf, placeOf}
 use Rattle.settings.specs.Table.{filler-from-126}
-use Rattle.settings.specs.Values.{isAllowed}
 use Rattle.settings.specs.Image.{pairsOf, valuesOf, numbersOf, bodiesOf, fillerOf, frontOf, imageOf}
 use Rattle.settings.specs.Reader.{shownIn, settingsIn, checksumDiffers, formUnknown, fieldDiffers, entryDiffers, differingEntry, fillerDiffers, valueNotAllowed}
 use Rattle.settings.proofs.WriterLaws.{length-table}

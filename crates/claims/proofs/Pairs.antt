@@ -1,10 +1,10 @@
 -- Numbers of two bytes each: reading them gives them, and bytes that read as them are theirs.
 use mathlib.Core.Path.{_≡_, refl, sym, ap, ap₂, _∙_}
 use mathlib.Core.List.{List, [], _∷_, _++_}
-use Prim.Native.Nat.{ℕ, zero, suc, _+_, _*_, _/_, _%_, _^_, _≤_, _<_}
+use Prim.Native.Nat.{ℕ, zero, suc, _+_, _*_, _≤_, _<_}
 use native.Mathlib.Omega.{arith}
-use lib.ListN.{length, getD, take, drop}
-use Rattle.octets.specs.Number.{numberOf, bytesOf, part, numberAt}
+use lib.ListN.{length, getD, take}
+use Rattle.octets.specs.Number.{numberOf, bytesOf, numberAt}
 use Rattle.octets.proofs.Numbers.{bytes-of-number, each-bytesOf}
 use Rattle.octets.proofs.Parts.{each-none, each-cons, each-append}
 use Rattle.settings.specs.Image.{pairsOf}

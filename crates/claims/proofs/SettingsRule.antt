@@ -9,16 +9,17 @@ use borrow.Author.Tests.{eq-eqb, eqb-true, not-false}
 use lib.Dec.{eqb}
 use lib.ListN.{length, getD, replicate}
 use Rattle.octets.specs.Choice.{pick}
+use Rattle.octets.specs.Search.{allAre}
 use Rattle.octets.proofs.Parts.{each-replicate}
-use Rattle.octets.proofs.Searching.{by-test, pick-both, pick-true, pick-false, replicate-all-are}
+use Rattle.octets.proofs.Searching.{pick-both, pick-false, replicate-all-are}
 use Rattle.settings.specs.declared.Settings.{Settings}
 use Rattle.settings.specs.Layout.{form1, imageSize}
 use Rattle.settings.specs.Values.{isAllowed, blankSettings}
 use Rattle.settings.specs.Image.{imageOf}
 use Rattle.settings.specs.Answer.{ReadTold, accepted, refused, refusedAt, writeLeft}
-use Rattle.settings.specs.Reader.{shownIn, settingsIn, isBlank, checksumDiffers, formUnknown, differingEntry, fillerDiffers, valueNotAllowed, readWritten, readOf}
+use Rattle.settings.specs.Reader.{settingsIn, isBlank, checksumDiffers, formUnknown, differingEntry, fillerDiffers, valueNotAllowed, readWritten, readOf}
 use Rattle.settings.specs.Writer.{writeOf}
-use Rattle.claims.specs.Held.{Bytes, Held}
+use Rattle.claims.specs.Held.{Held}
 use Rattle.claims.proofs.Written.{image-reads}
 use Rattle.claims.proofs.Accepted.{written-again}
 
@@ -85,7 +86,9 @@ module _ (image : List ℕ) where
 
   reads-as : Passed image → isBlank image ≡ false → readOf form1 image ≡ accepted (settingsIn form1 image)
   unfolding readOf readWritten pick
-  reads-as p blank = rw (eq-eqb (length image) imageSize (p .size), blank, p .checksum, p .form, p .entries, p .filler, p .value)
+  reads-as p blank =
+      let some : allAre 0xFF image ≡ false = rw (eq-eqb (length image) imageSize (p .size)) at blank in
+      rw (eq-eqb (length image) imageSize (p .size), some, p .checksum, p .form, p .entries, p .filler, p .value)
 
   values-allowed : Passed image → isAllowed (settingsIn form1 image .shown) ≡ true
   unfolding settingsIn valueNotAllowed

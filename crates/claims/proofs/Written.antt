@@ -1,12 +1,12 @@
 -- What stands where in a written image, and that the reader finds nothing wrong with it.
-use mathlib.Core.Path.{_≡_, refl, sym, ap, _∙_}
-use mathlib.Core.Bool.{Bool, true, false, not}
+use mathlib.Core.Path.{_≡_, refl, ap, _∙_}
+use mathlib.Core.Bool.{true, false}
 use mathlib.Core.List.{List, [], _∷_, _++_, append-assoc}
-use Prim.Native.Nat.{ℕ, zero, suc, _+_, _-_, _*_, _^_, _≤_, _<_}
+use Prim.Native.Nat.{ℕ, _+_, _-_, _*_, _≤_, _<_}
 use native.Mathlib.Omega.{arith}
 use borrow.Author.Tests.{eq-eqb, leb-true}
-use lib.Dec.{eqb, ltb, leb, ltb→lt}
-use lib.ListN.{length, getD, take, drop, replicate, length-append, length-replicate}
+use lib.Dec.{ltb, leb, ltb→lt}
+use lib.ListN.{length, getD, take, drop, length-append, length-replicate}
 use lib.Seq.{take-at, drop-at, take-all}
 use Rattle.octets.specs.Choice.{pick}
 use Rattle.octets.specs.Number.{numberOf, bytesOf, part, numberAt}
@@ -24,8 +24,8 @@ use Rattle.settings.specs.Table.{tableOf01, layout-gives-table, filler-from-126
 use Rattle.settings.specs.Values.{isAllowed}
 use Rattle.settings.specs.Image.{pairsOf, valuesOf, numbersOf, bodiesOf, fillerOf, frontOf, imageOf}
 use Rattle.settings.specs.Answer.{accepted}
-use Rattle.settings.specs.Reader.{bodyIn, shownIn, settingsIn, isBlank, checksumDiffers, formUnknown, fieldDiffers, entryDiffers, differingEntry, fillerDiffers, valueNotAllowed, readWritten, readOf}
-use Rattle.settings.proofs.WriterLaws.{length-table, length-pairs, length-front, length-bodies}
+use Rattle.settings.specs.Reader.{shownIn, settingsIn, checksumDiffers, formUnknown, fieldDiffers, entryDiffers, differingEntry, fillerDiffers, valueNotAllowed, readWritten, readOf}
+use Rattle.settings.proofs.WriterLaws.{length-table, length-pairs, length-front}
 use Rattle.claims.specs.Held.{Held}
 use Rattle.claims.proofs.Pairs.{pairs-at, each-pairs}
 
@@ -168,9 +168,9 @@ module _ (s : Settings) (held : Held s) (allowed : isAllowed (s .shown) ≡ true
   unfolding image imageOf front
   image-size = length-append front (bytesOf 4 (checksumOf front)) ∙ omega (arith, front-size, length-bytesOf 4 (checksumOf front))
 
-  not-blank : isBlank image ≡ false
+  first-byte : allAre 255 image ≡ false
   unfolding image imageOf pairsOf tableOf bytesOf allAre pick
-  not-blank = refl
+  first-byte = refl
 
   values-each : (k : ℕ) → getD (valuesOf (s .shown)) k 0 < 256
   values-each =
@@ -247,7 +247,7 @@ module _ (s : Settings) (held : Held s) (allowed : isAllowed (s .shown) ≡ true
   reads-back : readOf form1 image ≡ accepted s
   unfolding readOf readWritten pick
   reads-back =
-      rw (eq-eqb (length image) 1024 image-size, not-blank, checksum-same, form-known, no-entry-differs, filler-same, values-allowed, settings-back)
+      rw (eq-eqb (length image) 1024 image-size, first-byte, checksum-same, form-known, no-entry-differs, filler-same, values-allowed, settings-back)
 
   pub image-reads : readOf form1 (imageOf form1 s) ≡ accepted s
   unfolding image

@@ -1,11 +1,11 @@
 -- A number and its bytes give each other back.
-use mathlib.Core.Path.{_≡_, refl, sym, ap, ap₂, _∙_}
-use mathlib.Core.List.{List, [], _∷_, _++_}
-use Prim.Native.Nat.{ℕ, zero, suc, _+_, _-_, _*_, _/_, _%_, _^_, _≤_, _<_}
+use mathlib.Core.Path.{_≡_, refl, ap, ap₂, _∙_}
+use mathlib.Core.List.{List, [], _∷_}
+use Prim.Native.Nat.{ℕ, zero, suc, _+_, _-_, _*_, _/_, _%_, _^_, _<_}
 use native.Mathlib.Nat.{pow-suc, div-lt-iff-lt-mul, mod-lt, zero-lt-suc}
 use native.Mathlib.Omega.{arith}
-use lib.ListN.{length, getD, take, drop}
-use Rattle.octets.specs.Number.{numberOf, bytesOf, part, numberAt}
+use lib.ListN.{length, getD, take}
+use Rattle.octets.specs.Number.{numberOf, bytesOf, numberAt}
 
 pub length-bytesOf : (width number : ℕ) → length (bytesOf width number) ≡ width
 unfolding bytesOf

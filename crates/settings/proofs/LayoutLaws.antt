@@ -5,9 +5,7 @@ use Prim.Native.Nat.{ℕ, zero, suc, _+_, _-_, _*_, _/_, _%_, _≤_, _<_}
 use native.Mathlib.Nat.{le-of-suc-le-suc}
 use native.Mathlib.Omega.{arith}
 use lib.ListN.{length, getD, take, List·getD-append}
-use Rattle.settings.specs.declared.Layout.{Layout}
-use Rattle.settings.specs.Layout.{form1, sumOf, countOf, lengthOf, offsetOf, entryOf, entriesFrom, tableOf}
-use Rattle.settings.specs.Table.{filler-from-126}
+use Rattle.settings.specs.Layout.{Layout, form1, sumOf, countOf, lengthOf, offsetOf, entryOf, entriesFrom, tableOf}
 
 -- the sum of one more
 pub sum-next : (numbers : List ℕ) (i : ℕ) → i < length numbers → sumOf (take (i + 1) numbers) ≡ sumOf (take i numbers) + getD numbers i 0
@@ -53,6 +51,30 @@ table-at layout place l u =
     ap (λ (k : ℕ). getD (tableOf layout) k 0) e
     ∙ entries-at layout 1 (countOf layout) ((place - 2) / 4) ((place - 2) % 4) (omega arith) (omega arith)
 
--- the filler of form 1 begins before the checksum
-pub filler-within : (layout : Layout) (from : ℕ) → layout ≡ form1 → from ≡ offsetOf layout 7 → from ≤ 1020
-filler-within layout from e f = omega (arith, f ∙ ap (λ (l : Layout). offsetOf l 7) e ∙ filler-from-126)
+-- some of the lengths are no more than all
+sum-of-some : (numbers : List ℕ) (k : ℕ) → sumOf (take k numbers) ≤ sumOf numbers
+unfolding sumOf
+sum-of-some [] zero = omega arith
+sum-of-some [] (suc k) = omega arith
+sum-of-some (n ∷ numbers) zero = omega arith
+sum-of-some (n ∷ numbers) (suc k) = omega (arith, sum-of-some numbers k)
+
+pub sum-small : (k : ℕ) → sumOf (take k (form1 .lengths)) ≤ 74
+unfolding sumOf
+sum-small k = sum-of-some (form1 .lengths) k
+
+-- no body of form 1 begins behind the filler
+pub offset-small : (entry : ℕ) → offsetOf form1 entry ≤ 126
+unfolding offsetOf
+offset-small entry = omega (arith, sum-small (entry - 1))
+
+-- no length is more than all together
+one-of-sum : (numbers : List ℕ) (k : ℕ) → getD numbers k 0 ≤ sumOf numbers
+unfolding sumOf
+one-of-sum [] k = omega arith
+one-of-sum (n ∷ numbers) zero = omega arith
+one-of-sum (n ∷ numbers) (suc k) = omega (arith, one-of-sum numbers k)
+
+pub length-small : (entry : ℕ) → lengthOf form1 entry ≤ 74
+unfolding sumOf
+length-small entry = one-of-sum (form1 .lengths) (entry - 1)

@@ -1,19 +1,18 @@
 -- Written piece by piece, the pieces make the image.
 use mathlib.Core.Path.{_≡_, refl, sym, ap, _∙_}
 use mathlib.Core.List.{List, [], _∷_, _++_, append-assoc}
-use Prim.Native.Nat.{ℕ, zero, suc, _+_, _-_, _*_, _≤_, _<_}
+use Prim.Native.Nat.{ℕ, zero, suc, _+_, _-_, _*_, _<_}
 use native.Mathlib.Numerals.{add-one}
 use native.Mathlib.Omega.{arith}
-use lib.ListN.{length, getD, take, drop, replicate, length-append, length-replicate}
+use lib.ListN.{length, getD, take, drop, length-append, length-replicate}
 use lib.Seq.{sets, drop-cons, take-at}
 use Rattle.octets.specs.Number.{bytesOf}
 use Rattle.octets.proofs.Numbers.{length-bytesOf}
 use Rattle.stores.proofs.Storing.{sets-join, stored-front, stored-whole}
 use Rattle.checksum.specs.Checksum.{checksumOf}
-use Rattle.settings.specs.declared.Layout.{Layout}
 use Rattle.settings.specs.declared.Shown.{Shown}
 use Rattle.settings.specs.declared.Settings.{Settings}
-use Rattle.settings.specs.Layout.{form1, countOf, bodiesEnd, offsetOf, sumOf, entryOf, entriesFrom, tableOf}
+use Rattle.settings.specs.Layout.{Layout, form1, countOf, bodiesEnd, offsetOf, sumOf, entryOf, entriesFrom, tableOf}
 use Rattle.settings.specs.Table.{filler-from-126}
 use Rattle.settings.specs.Image.{pairsOf, valuesOf, numbersOf, bodiesOf, fillerOf, frontOf, sealed}
 
@@ -62,6 +61,10 @@ pub shown-joined : (area : List ℕ) (shown : Shown)
 unfolding bytesOf
 shown-joined area shown = sets-join area 100 106 (valuesOf shown) (numbersOf shown) refl
 
+bodies-from-52 : offsetOf form1 1 ≡ 52
+unfolding offsetOf sumOf
+bodies-from-52 = refl
+
 -- ---- settings whose arrays have their lengths, as every value of the struct has
 
 module _ (s : Settings) (p : length (s .password) ≡ 32) (r : length (s .«reset_password») ≡ 16) (q : length (s .protection) ≡ 8) where
@@ -86,10 +89,10 @@ module _ (s : Settings) (p : length (s .password) ≡ 32) (r : length (s .«rese
 
   -- table, bodies and filler
   pub front-joined : (area : List ℕ)
-      → sets (sets (sets area 0 (pairsOf (tableOf form1))) 52 (bodiesOf s)) 126 (fillerOf form1) ≡ sets area 0 (frontOf form1 s)
+      → sets (sets (sets area 0 (pairsOf (tableOf form1))) (offsetOf form1 1) (bodiesOf s)) (bodiesEnd form1) (fillerOf form1) ≡ sets area 0 (frontOf form1 s)
   front-joined area =
-      sets-join (sets area 0 (pairsOf (tableOf form1))) 52 126 (bodiesOf s) (fillerOf form1) (omega (arith, length-bodies))
-      ∙ sets-join area 0 52 (pairsOf (tableOf form1)) (bodiesOf s ++ fillerOf form1) (omega (arith, length-pairs (tableOf form1), length-table form1))
+      sets-join (sets area 0 (pairsOf (tableOf form1))) (offsetOf form1 1) (bodiesEnd form1) (bodiesOf s) (fillerOf form1) (omega (arith, length-bodies, filler-from-126, bodies-from-52))
+      ∙ sets-join area 0 (offsetOf form1 1) (pairsOf (tableOf form1)) (bodiesOf s ++ fillerOf form1) (omega (arith, length-pairs (tableOf form1), length-table form1, bodies-from-52))
 
 -- ---- the checksum
 

@@ -9,26 +9,30 @@ use Rattle.settings.specs.declared.WriteAnswer.{WriteAnswer}
 use Rattle.settings.specs.declared.WriteAnswer.the-variants as write
 use Rattle.settings.specs.Values.{noSettings}
 
--- "3 settings area not 1,024 bytes; 4 not blank and checksum differs; 5 form not 1 or count not 6; 6 an entry differs from the table;
--- 7 a byte of 126..1,019 is not 0xFF; 8 a value in body 3 is not allowed"
-abbrev pub readNumber : ReadAnswer → ℕ
-readNumber Accepted = 0
-readNumber SizeWrong = 3
-readNumber ChecksumDiffers = 4
-readNumber FormUnknown = 5
-readNumber (EntryDiffers entry) = 6
-readNumber FillerDiffers = 7
-readNumber ValueNotAllowed = 8
+-- an answer's number, and the entry that goes with it
+pub record Numbered : Type 0 where
+  pub number : ℕ
+  pub entry : ℕ
 
--- "that entry's number, counted from 1, goes with refusal 6"
+abbrev pub numbered : ℕ → ℕ → Numbered
+numbered number entry = record { number = number; entry = entry }
+
+-- "3 settings area not 1,024 bytes; 4 not blank and checksum differs; 5 form not 1 or count not 6; 6 an entry differs from the table;
+-- 7 a byte of 126..1,019 is not 0xFF; 8 a value in body 3 is not allowed"; "that entry's number, counted from 1, goes with refusal 6"
+abbrev pub readNumbered : ReadAnswer → Numbered
+readNumbered Accepted = numbered 0 0
+readNumbered SizeWrong = numbered 3 0
+readNumbered ChecksumDiffers = numbered 4 0
+readNumbered FormUnknown = numbered 5 0
+readNumbered (EntryDiffers entry) = numbered 6 entry
+readNumbered FillerDiffers = numbered 7 0
+readNumbered ValueNotAllowed = numbered 8 0
+
+abbrev pub readNumber : ReadAnswer → ℕ
+readNumber answer = readNumbered answer .number
+
 abbrev pub readEntry : ReadAnswer → ℕ
-readEntry Accepted = 0
-readEntry SizeWrong = 0
-readEntry ChecksumDiffers = 0
-readEntry FormUnknown = 0
-readEntry (EntryDiffers entry) = entry
-readEntry FillerDiffers = 0
-readEntry ValueNotAllowed = 0
+readEntry answer = readNumbered answer .entry
 
 -- all that the reader tells
 pub record ReadTold : Type 0 where
@@ -43,14 +47,16 @@ readTold reading = record {
   settings = reading .settings;
 }
 
+-- an image that is accepted, and what it says
 abbrev pub accepted : Settings → ReadTold
 accepted settings = record { number = 0; entry = 0; settings = settings }
 
-abbrev pub refused : ℕ → ReadTold
-refused number = record { number = number; entry = 0; settings = noSettings }
-
+-- an image that is refused, at an entry or at none
 abbrev pub refusedAt : ℕ → ℕ → ReadTold
 refusedAt number entry = record { number = number; entry = entry; settings = noSettings }
+
+abbrev pub refused : ℕ → ReadTold
+refused number = refusedAt number 0
 
 -- "the writer 3 then 8"
 abbrev pub writeNumber : WriteAnswer → ℕ

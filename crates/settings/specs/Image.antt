@@ -4,10 +4,9 @@ use mathlib.Core.List.{List, [], _∷_, _++_}
 use lib.ListN.{replicate}
 use Rattle.octets.specs.Number.{bytesOf}
 use Rattle.checksum.specs.Checksum.{checksumOf}
-use Rattle.settings.specs.declared.Layout.{Layout}
 use Rattle.settings.specs.declared.Shown.{Shown}
 use Rattle.settings.specs.declared.Settings.{Settings}
-use Rattle.settings.specs.Layout.{checksumAt, bodiesEnd, tableOf}
+use Rattle.settings.specs.Layout.{Layout, checksumAt, bodiesEnd, tableOf}
 
 -- "two bytes each"
 unfoldable pub pairsOf : List ℕ → List ℕ
@@ -41,5 +40,6 @@ frontOf layout settings = pairsOf (tableOf layout) ++ (bodiesOf settings ++ fill
 abbrev pub sealed : List ℕ → List ℕ
 sealed front = front ++ bytesOf 4 (checksumOf front)
 
+-- the image of some settings
 unfoldable pub imageOf : Layout → Settings → List ℕ
 imageOf layout settings = sealed (frontOf layout settings)

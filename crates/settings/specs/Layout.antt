@@ -3,7 +3,10 @@
 use Prim.Native.Nat.{ℕ, zero, suc, _+_, _-_, _*_}
 use mathlib.Core.List.{List, [], _∷_, _++_}
 use lib.ListN.{length, getD, take}
-use Rattle.settings.specs.declared.Layout.{Layout}
+
+pub record Layout : Type 0 where
+  pub form : ℕ
+  pub lengths : List ℕ
 
 -- form 1: the lengths of 01's six bodies
 abbrev pub form1 : Layout
@@ -16,6 +19,7 @@ imageSize = 1024
 abbrev pub checksumAt : ℕ
 checksumAt = 1020
 
+-- the lengths of some bodies together
 unfoldable pub sumOf : List ℕ → ℕ
 sumOf [] = 0
 sumOf (number ∷ numbers) = number + sumOf numbers

@@ -1,6 +1,6 @@
 -- 01, Numbers of refused calls: "Checked in this order .. the settings reader 3-8".
-use Prim.Native.Nat.{ℕ, zero, suc, _+_, _-_, _*_}
-use mathlib.Core.Bool.{Bool, true, false, not}
+use Prim.Native.Nat.{ℕ, _-_, _*_}
+use mathlib.Core.Bool.{Bool, false, not}
 use mathlib.Core.List.{List}
 use lib.Dec.{eqb}
 use lib.ListN.{length, getD, take}
@@ -8,10 +8,9 @@ use Rattle.octets.specs.Choice.{pick}
 use Rattle.octets.specs.Number.{part, numberAt}
 use Rattle.octets.specs.Search.{allAre, firstFrom, someFrom}
 use Rattle.checksum.specs.Checksum.{checksumOf}
-use Rattle.settings.specs.declared.Layout.{Layout}
 use Rattle.settings.specs.declared.Shown.{Shown}
 use Rattle.settings.specs.declared.Settings.{Settings}
-use Rattle.settings.specs.Layout.{imageSize, checksumAt, countOf, lengthOf, offsetOf, bodiesEnd, tableOf, placeOf}
+use Rattle.settings.specs.Layout.{Layout, imageSize, checksumAt, countOf, lengthOf, offsetOf, bodiesEnd, tableOf, placeOf}
 use Rattle.settings.specs.Values.{isAllowed, blankSettings}
 use Rattle.settings.specs.Answer.{ReadTold, accepted, refused, refusedAt}
 
@@ -31,7 +30,7 @@ shownIn layout image = record {
   «version_pointer» = numberAt 0 4 (bodyIn layout 5 image);
 }
 
--- what all the bodies say
+-- what all the bodies say: "Bits for sectors beyond MAIN are kept"
 unfoldable pub settingsIn : Layout → List ℕ → Settings
 settingsIn layout image = record {
   shown = shownIn layout image;
@@ -40,9 +39,9 @@ settingsIn layout image = record {
   «reset_password» = bodyIn layout 2 image;
 }
 
--- "An image of 1,024 bytes 0xFF is blank" (the size is looked at first)
+-- "An image of 1,024 bytes 0xFF is blank"
 abbrev pub isBlank : List ℕ → Bool
-isBlank image = allAre 0xFF image
+isBlank image = pick (eqb (length image) imageSize) (allAre 0xFF image) false
 
 -- 4: "checksum differs"
 unfoldable pub checksumDiffers : List ℕ → Bool

@@ -1,7 +1,5 @@
 -- 01, Settings image, the table's kind 3 and the blank image.
-use Prim.Native.Nat.{ℕ}
-use mathlib.Core.Bool.{Bool, true, false}
-use mathlib.Core.List.{List}
+use mathlib.Core.Bool.{Bool, false}
 use lib.Dec.{leb}
 use lib.ListN.{replicate}
 use Rattle.octets.specs.Choice.{pick}

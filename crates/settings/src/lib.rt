@@ -12,12 +12,6 @@ pub const IMAGE_SIZE: usize = 1024;
 
 pub const CHECKSUM_AT: usize = 1020;
 
-// A form of the image: its number and the lengths of its bodies. All places are computed from these.
-pub struct Layout {
-    pub form: u16,
-    pub lengths: [u8; 6],
-}
-
 // What may be shown of the settings: raw numbers, as they stand in bodies 3, 4 and 5.
 pub struct Shown {
     pub reset_mode: u8,

@@ -1,70 +1,67 @@
-// Where the parts of an image stand, computed from its layout. Entries are counted from 1.
+// Where the parts of an image stand: all is computed from the form number and the lengths of the bodies. Entries are counted from 1.
 ghost use mathlib.Core.Path.{_≡_};
 ghost use Prim.Native.Nat.{_<_, _≤_};
 ghost use lib.ListN.{getD};
 ghost use Rattle.settings.specs.Layout.{form1, lengthOf, offsetOf, entryOf, tableOf};
-use crate::Layout;
 
-// How many entries a table has, and how many two-byte numbers.
+pub(crate) const FORM: u16 = 1;
+
 pub(crate) const ENTRIES: usize = 6;
 
+// A table is so many numbers of two bytes each.
 pub(crate) const TABLE_NUMBERS: usize = 2 + 4 * ENTRIES;
 
-// The layout of form 1.
-pub(crate) fn form_1() -> Layout
-    ensures { λ r. ⌜ r ≡ form1 ⌝ }
+fn lengths() -> [u8; 6]
+    ensures { λ r. ⌜ r ≡ form1 .lengths ⌝ }
 {
-    Layout {
-        form: 1,
-        lengths: [32, 16, 6, 8, 4, 8],
-    }
+    [32, 16, 6, 8, 4, 8]
 }
 
 // The length of an entry's body.
-pub(crate) fn length_of(layout: Layout, entry: usize) -> u16
+pub(crate) fn length_of(entry: usize) -> usize
     requires { ⌜ (0 < entry) × (entry ≤ 6) ⌝ }
-    ensures { λ r. ⌜ r ≡ lengthOf layout entry ⌝ }
+    ensures { λ r. ⌜ r ≡ lengthOf form1 entry ⌝ }
 {
-    let lengths = layout.lengths;
-    lengths[entry - 1] as u16
+    let all = lengths();
+    all[entry - 1] as usize
 }
 
 // Where an entry's body begins; after the last entry, where the bodies end.
-pub(crate) fn offset_of(layout: Layout, entry: usize) -> u16
+pub(crate) fn offset_of(entry: usize) -> usize
     requires { ⌜ (0 < entry) × (entry ≤ 7) ⌝ }
-    ensures { λ r. ⌜ r ≡ offsetOf layout entry ⌝ }
+    ensures { λ r. ⌜ r ≡ offsetOf form1 entry ⌝ }
 {
-    let lengths = layout.lengths;
-    let mut offset = 4 + 8 * (ENTRIES as u16);
+    let all = lengths();
+    let mut offset = 2 * TABLE_NUMBERS;
     for i in 0..entry - 1 {
-        offset += lengths[i] as u16;
+        offset += all[i] as usize;
     }
     offset
 }
 
 // A field of an entry: kind, offset, length, zero.
-fn entry_field(layout: Layout, entry: usize, field: usize) -> u16
+fn entry_field(entry: usize, field: usize) -> u16
     requires { ⌜ (0 < entry) × (entry ≤ 6) ⌝ }
-    ensures { λ r. ⌜ r ≡ getD (entryOf layout entry) field 0 ⌝ }
+    ensures { λ r. ⌜ r ≡ getD (entryOf form1 entry) field 0 ⌝ }
 {
     match field {
         0 => entry as u16,
-        1 => offset_of(layout, entry),
-        2 => length_of(layout, entry),
+        1 => offset_of(entry) as u16,
+        2 => length_of(entry) as u16,
         _ => 0,
     }
 }
 
 // The number at a place of the table: the form, the count, then four of each entry.
-pub(crate) fn table_number(layout: Layout, place: usize) -> u16
+pub(crate) fn table_number(place: usize) -> u16
     requires { ⌜ place < 26 ⌝ }
-    ensures { λ r. ⌜ r ≡ getD (tableOf layout) place 0 ⌝ }
+    ensures { λ r. ⌜ r ≡ getD (tableOf form1) place 0 ⌝ }
 {
     if place == 0 {
-        return layout.form;
+        return FORM;
     }
     if place == 1 {
         return ENTRIES as u16;
     }
-    entry_field(layout, 1 + (place - 2) / 4, (place - 2) % 4)
+    entry_field(1 + (place - 2) / 4, (place - 2) % 4)
 }

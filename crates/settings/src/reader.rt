@@ -7,7 +7,6 @@ ghost use Rattle.settings.specs.Answer.{readTold, readNumber, readEntry,
 ghost use Rattle.settings.specs.Reader.{bodyIn, shownIn, settingsIn, checksumDiffers, formUnknown, differingEntry, fillerDiffers, valueNotAllowed, readWritten, readOf};
 use crate::CHECKSUM_AT;
 use crate::IMAGE_SIZE;
-use crate::Layout;
 use crate::ReadAnswer;
 use crate::Reading;
 use crate::Settings;
@@ -16,22 +15,22 @@ use crate::places;
 use crate::values;
 
 // The body of an entry.
-fn body_in(layout: Layout, entry: usize, image: &[u8]) -> &[u8]
+fn body_in(entry: usize, image: &[u8]) -> &[u8]
     requires { ⌜ (0 < entry) × (entry ≤ 6) ⌝ }
-    ensures { λ r. ⌜ now r ≡ bodyIn layout entry (now (image .entry)) ⌝ }
+    ensures { λ r. ⌜ now r ≡ bodyIn form1 entry (now (image .entry)) ⌝ }
 {
-    let offset = places::offset_of(layout, entry);
-    let length = places::length_of(layout, entry);
-    octets::part_of(image, offset as usize, length as usize)
+    let offset = places::offset_of(entry);
+    let length = places::length_of(entry);
+    octets::part_of(image, offset, length)
 }
 
 // What bodies 3, 4 and 5 say.
-fn shown_in(layout: Layout, image: &[u8]) -> Shown
-    ensures { λ r. ⌜ r ≡ shownIn layout (now (image .entry)) ⌝ }
+fn shown_in(image: &[u8]) -> Shown
+    ensures { λ r. ⌜ r ≡ shownIn form1 (now (image .entry)) ⌝ }
 {
-    let values = body_in(layout, 3, image);
-    let ids = body_in(layout, 4, image);
-    let pointer = body_in(layout, 5, image);
+    let values = body_in(3, image);
+    let ids = body_in(4, image);
+    let pointer = body_in(5, image);
     Shown {
         reset_mode: octets::byte_at(values, 0),
         alert: octets::byte_at(values, 1),
@@ -72,14 +71,14 @@ fn protection_of(bytes: &[u8]) -> [u8; 8]
 }
 
 // What all the bodies say.
-fn settings_in(layout: Layout, image: &[u8]) -> Settings
-    requires { ⌜ (layout ≡ form1) × (length (now image) ≡ 1024) ⌝ }
-    ensures { λ r. ⌜ r ≡ settingsIn layout (now (image .entry)) ⌝ }
+fn settings_in(image: &[u8]) -> Settings
+    requires { ⌜ length (now image) ≡ 1024 ⌝ }
+    ensures { λ r. ⌜ r ≡ settingsIn form1 (now (image .entry)) ⌝ }
 {
-    let shown = shown_in(layout, image);
-    let protection = protection_of(body_in(layout, 6, image));
-    let password = password_of(body_in(layout, 1, image));
-    let reset_password = reset_password_of(body_in(layout, 2, image));
+    let shown = shown_in(image);
+    let protection = protection_of(body_in(6, image));
+    let password = password_of(body_in(1, image));
+    let reset_password = reset_password_of(body_in(2, image));
     Settings {
         shown,
         protection,
@@ -95,18 +94,18 @@ fn checksum_differs(image: &[u8]) -> bool
     octets::number32_at(image, CHECKSUM_AT) != checksum::checksum_of(&image[..CHECKSUM_AT])
 }
 
-fn form_unknown(layout: Layout, image: &[u8]) -> bool
-    ensures { λ r. ⌜ r ≡ formUnknown layout (now (image .entry)) ⌝ }
+fn form_unknown(image: &[u8]) -> bool
+    ensures { λ r. ⌜ r ≡ formUnknown form1 (now (image .entry)) ⌝ }
 {
-    if octets::number16_at(image, 0) != layout.form {
+    if octets::number16_at(image, 0) != places::FORM {
         return true;
     }
     octets::number16_at(image, 2) != places::ENTRIES as u16
 }
 
 // The number of the first entry that differs from the table, counted from 1; 0 where none does.
-fn differing_entry(layout: Layout, image: &[u8]) -> usize
-    ensures { λ r. ⌜ r ≡ differingEntry layout (now (image .entry)) ⌝ }
+fn differing_entry(image: &[u8]) -> usize
+    ensures { λ r. ⌜ r ≡ differingEntry form1 (now (image .entry)) ⌝ }
 {
     let mut passed = 0;
     let differing = 'search: loop {
@@ -115,7 +114,7 @@ fn differing_entry(layout: Layout, image: &[u8]) -> usize
         }
         for field in 0..4 {
             let place = 2 + 4 * passed + field;
-            if octets::number16_at(image, 2 * place) != places::table_number(layout, place) {
+            if octets::number16_at(image, 2 * place) != places::table_number(place) {
                 break 'search passed + 1;
             }
         }
@@ -124,21 +123,20 @@ fn differing_entry(layout: Layout, image: &[u8]) -> usize
     differing
 }
 
-fn filler_differs(layout: Layout, image: &[u8]) -> bool
-    requires { ⌜ layout ≡ form1 ⌝ }
-    ensures { λ r. ⌜ r ≡ fillerDiffers layout (now (image .entry)) ⌝ }
+fn filler_differs(image: &[u8]) -> bool
+    ensures { λ r. ⌜ r ≡ fillerDiffers form1 (now (image .entry)) ⌝ }
 {
-    let from = places::offset_of(layout, places::ENTRIES + 1) as usize;
+    let from = places::offset_of(places::ENTRIES + 1);
     !octets::all_are(0xFF, octets::part_of(image, from, CHECKSUM_AT - from))
 }
 
-fn value_not_allowed(layout: Layout, image: &[u8]) -> bool
-    ensures { λ r. ⌜ r ≡ valueNotAllowed layout (now (image .entry)) ⌝ }
+fn value_not_allowed(image: &[u8]) -> bool
+    ensures { λ r. ⌜ r ≡ valueNotAllowed form1 (now (image .entry)) ⌝ }
 {
-    if !values::are_allowed(shown_in(layout, image)) {
+    if !values::are_allowed(shown_in(image)) {
         return true;
     }
-    octets::byte_at(body_in(layout, 3, image), 5) != 0
+    octets::byte_at(body_in(3, image), 5) != 0
 }
 
 fn refused(answer: ReadAnswer) -> Reading
@@ -158,27 +156,27 @@ fn accepting(settings: Settings) -> Reading
 }
 
 // Reads an image that is not blank.
-fn read_written(layout: Layout, image: &[u8]) -> Reading
-    requires { ⌜ (layout ≡ form1) × (length (now image) ≡ 1024) ⌝ }
-    ensures { λ r. ⌜ readTold r ≡ readWritten layout (now (image .entry)) ⌝ }
+fn read_written(image: &[u8]) -> Reading
+    requires { ⌜ length (now image) ≡ 1024 ⌝ }
+    ensures { λ r. ⌜ readTold r ≡ readWritten form1 (now (image .entry)) ⌝ }
 {
     if checksum_differs(image) {
         return refused(ReadAnswer::ChecksumDiffers);
     }
-    if form_unknown(layout, image) {
+    if form_unknown(image) {
         return refused(ReadAnswer::FormUnknown);
     }
-    let entry = differing_entry(layout, image);
+    let entry = differing_entry(image);
     if entry != 0 {
         return refused(ReadAnswer::EntryDiffers(entry));
     }
-    if filler_differs(layout, image) {
+    if filler_differs(image) {
         return refused(ReadAnswer::FillerDiffers);
     }
-    if value_not_allowed(layout, image) {
+    if value_not_allowed(image) {
         return refused(ReadAnswer::ValueNotAllowed);
     }
-    accepting(settings_in(layout, image))
+    accepting(settings_in(image))
 }
 
 // Reads an image: the first refusal that applies, or the settings.
@@ -191,5 +189,5 @@ pub fn read(image: &[u8]) -> Reading
     if octets::all_are(0xFF, image) {
         return accepting(values::blank());
     }
-    read_written(places::form_1(), image)
+    read_written(image)
 }

@@ -11,40 +11,33 @@ ghost use Rattle.settings.specs.Answer.{writeNumber, writeLeft};
 ghost use Rattle.settings.specs.Writer.{writeOf};
 use crate::CHECKSUM_AT;
 use crate::IMAGE_SIZE;
-use crate::Layout;
 use crate::Settings;
 use crate::Shown;
 use crate::WriteAnswer;
 use crate::places;
 use crate::values;
 
-fn put_table(image: &mut [u8], layout: Layout)
-    ensures { λ _. ⌜ now (image .exit) ≡ sets (now (image .entry)) 0 (pairsOf (tableOf layout)) ⌝ }
+fn put_table(image: &mut [u8])
+    ensures { λ _. ⌜ now (image .exit) ≡ sets (now (image .entry)) 0 (pairsOf (tableOf form1)) ⌝ }
 {
     for place in 0..places::TABLE_NUMBERS {
-        let number = places::table_number(layout, place);
+        let number = places::table_number(place);
         stores::put_number(image, 2 * place, 2, number as u32);
     }
 }
 
 // Bodies 1 and 2.
-fn put_passwords(image: &mut [u8], layout: Layout, settings: Settings)
-    requires { ⌜ layout ≡ form1 ⌝ }
-    ensures { λ _. ⌜ now (image .exit) ≡ sets (now (image .entry)) (offsetOf layout 1) (settings .password ++ settings .«reset_password») ⌝ }
+fn put_passwords<'a>(image: &mut [u8], password: &'a [u8], reset_password: &'a [u8])
+    requires { ⌜ length (now password) ≡ 32 ⌝ }
+    ensures { λ _. ⌜ now (image .exit) ≡ sets (now (image .entry)) (offsetOf form1 1) (now (password .entry) ++ now («reset_password» .entry)) ⌝ }
 {
-    let password = settings.password;
-    let reset_password = settings.reset_password;
-    stores::put(image, places::offset_of(layout, 1) as usize, &password);
-    stores::put(
-        image,
-        places::offset_of(layout, 2) as usize,
-        &reset_password,
-    );
+    stores::put(image, places::offset_of(1), password);
+    stores::put(image, places::offset_of(2), reset_password);
 }
 
 // Body 3.
-fn put_values(image: &mut [u8], layout: Layout, shown: Shown)
-    ensures { λ _. ⌜ now (image .exit) ≡ sets (now (image .entry)) (offsetOf layout 3) (valuesOf shown) ⌝ }
+fn put_values(image: &mut [u8], shown: Shown)
+    ensures { λ _. ⌜ now (image .exit) ≡ sets (now (image .entry)) (offsetOf form1 3) (valuesOf shown) ⌝ }
 {
     let body = [
         shown.reset_mode,
@@ -54,57 +47,52 @@ fn put_values(image: &mut [u8], layout: Layout, shown: Shown)
         shown.settings_protected,
         0,
     ];
-    stores::put(image, places::offset_of(layout, 3) as usize, &body);
+    stores::put(image, places::offset_of(3), &body);
 }
 
 // Bodies 4 and 5.
-fn put_numbers(image: &mut [u8], layout: Layout, shown: Shown)
-    requires { ⌜ layout ≡ form1 ⌝ }
-    ensures { λ _. ⌜ now (image .exit) ≡ sets (now (image .entry)) (offsetOf layout 4) (numbersOf shown) ⌝ }
+fn put_numbers(image: &mut [u8], shown: Shown)
+    ensures { λ _. ⌜ now (image .exit) ≡ sets (now (image .entry)) (offsetOf form1 4) (numbersOf shown) ⌝ }
 {
-    let ids = places::offset_of(layout, 4) as usize;
-    let pointer = places::offset_of(layout, 5) as usize;
+    let ids = places::offset_of(4);
+    let pointer = places::offset_of(5);
     stores::put_number(image, ids, 4, shown.bcr_id);
     stores::put_number(image, ids + 4, 4, shown.bsl_id);
     stores::put_number(image, pointer, 4, shown.version_pointer);
 }
 
 // Bodies 3 to 5.
-fn put_shown(image: &mut [u8], layout: Layout, shown: Shown)
-    requires { ⌜ layout ≡ form1 ⌝ }
-    ensures { λ _. ⌜ now (image .exit) ≡ sets (now (image .entry)) (offsetOf layout 3) (valuesOf shown ++ numbersOf shown) ⌝ }
+fn put_shown(image: &mut [u8], shown: Shown)
+    ensures { λ _. ⌜ now (image .exit) ≡ sets (now (image .entry)) (offsetOf form1 3) (valuesOf shown ++ numbersOf shown) ⌝ }
 {
-    put_values(image, layout, shown);
-    put_numbers(image, layout, shown);
+    put_values(image, shown);
+    put_numbers(image, shown);
 }
 
-fn put_bodies(image: &mut [u8], layout: Layout, settings: Settings)
-    requires { ⌜ layout ≡ form1 ⌝ }
-    ensures { λ _. ⌜ now (image .exit) ≡ sets (now (image .entry)) (offsetOf layout 1) (bodiesOf settings) ⌝ }
+fn put_bodies(image: &mut [u8], settings: Settings)
+    ensures { λ _. ⌜ now (image .exit) ≡ sets (now (image .entry)) (offsetOf form1 1) (bodiesOf settings) ⌝ }
 {
-    let shown = settings.shown;
-    let protection = settings.protection;
-    put_passwords(image, layout, settings);
-    put_shown(image, layout, shown);
-    stores::put(image, places::offset_of(layout, 6) as usize, &protection);
+    put_passwords(image, &settings.password, &settings.reset_password);
+    put_shown(image, settings.shown);
+    stores::put(image, places::offset_of(6), &settings.protection);
 }
 
-fn put_filler(image: &mut [u8], layout: Layout)
-    requires { ⌜ (layout ≡ form1) × (length (now image) ≡ 1024) ⌝ }
-    ensures { λ _. ⌜ now (image .exit) ≡ sets (now (image .entry)) (bodiesEnd layout) (fillerOf layout) ⌝ }
+fn put_filler(image: &mut [u8])
+    requires { ⌜ length (now image) ≡ 1024 ⌝ }
+    ensures { λ _. ⌜ now (image .exit) ≡ sets (now (image .entry)) (bodiesEnd form1) (fillerOf form1) ⌝ }
 {
-    let from = places::offset_of(layout, places::ENTRIES + 1) as usize;
+    let from = places::offset_of(places::ENTRIES + 1);
     stores::fill(&mut image[from..CHECKSUM_AT], 0xFF);
 }
 
 // All that the checksum is of.
-fn put_front(image: &mut [u8], layout: Layout, settings: Settings)
-    requires { ⌜ (layout ≡ form1) × (length (now image) ≡ 1024) ⌝ }
-    ensures { λ _. ⌜ now (image .exit) ≡ sets (now (image .entry)) 0 (frontOf layout settings) ⌝ }
+fn put_front(image: &mut [u8], settings: Settings)
+    requires { ⌜ length (now image) ≡ 1024 ⌝ }
+    ensures { λ _. ⌜ now (image .exit) ≡ sets (now (image .entry)) 0 (frontOf form1 settings) ⌝ }
 {
-    put_table(image, layout);
-    put_bodies(image, layout, settings);
-    put_filler(image, layout);
+    put_table(image);
+    put_bodies(image, settings);
+    put_filler(image);
 }
 
 fn put_checksum(image: &mut [u8])
@@ -126,8 +114,7 @@ pub fn write(settings: Settings, image: &mut [u8]) -> WriteAnswer
     if !values::are_allowed(shown) {
         return WriteAnswer::ValueNotAllowed;
     }
-    let layout = places::form_1();
-    put_front(image, layout, settings);
+    put_front(image, settings);
     put_checksum(image);
     WriteAnswer::Written
 }

@@ -2,7 +2,7 @@
 use mathlib.Core.Path.{_≡_, refl, sym, _∙_}
 use Prim.Native.Nat.{_-_, _≤_}
 use native.Mathlib.Omega.{arith}
-use lib.ListN.{length, drop, drop-of-length-le}
+use lib.ListN.{length, drop}
 use Rattle.octets.specs.Search.{allAre}
 use Rattle.octets.proofs.Searching.{all-next, all-stops, all-passed}
 use Rattle.octets.proofs.all_are.Statement.{statement}

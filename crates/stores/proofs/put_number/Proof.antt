@@ -4,7 +4,7 @@ use Prim.Native.Nat.{_+_, _-_, _≤_, min}
 use native.Mathlib.Nat.{add-zero, sub-zero}
 use native.Mathlib.Omega.{arith}
 use borrow.Author.Needs.{needs}
-use lib.ListN.{length, drop, length-set, drop-of-length-le}
+use lib.ListN.{length, length-set}
 use lib.Seq.{sets}
 use Rattle.octets.specs.Number.{bytesOf}
 use Rattle.stores.proofs.Storing.{store-digit, stored, no-digit}

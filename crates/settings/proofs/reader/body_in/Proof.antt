@@ -9,7 +9,5 @@ body-in-spec =
     (tie.spec
     (λ c κs. search needs)
     (λ c κs. search needs)
-    (λ c. search needs)
-    (λ c. search needs)
     (λ c κs. search needs)
     (λ c. rw (c .part-of .ensures, c .before .length-of .ensures, c .before .before .offset-of .ensures)))

@@ -1,31 +1,30 @@
 -- `settings::reader::differing_entry` meets its contract: what the search says of the entries and fields left, it says of all.
-use mathlib.Core.Path.{_≡_, refl, sym, ap, _∙_}
-use mathlib.Core.Bool.{Bool, true, false, not}
-use Prim.Native.Nat.{_+_, _-_, _*_, _≤_, _<_}
+use mathlib.Core.Path.{_≡_, refl, sym, _∙_}
+use mathlib.Core.Bool.{true, false}
+use Prim.Native.Nat.{_+_, _-_, _*_, _≤_}
 use native.Mathlib.Omega.{arith}
 use borrow.Author.Needs.{needs}
 use borrow.Author.Tests.{eq-eqb, ne-eqb}
-use lib.ListN.{length}
 use Rattle.octets.specs.Search.{firstFrom, someFrom}
 use Rattle.octets.proofs.Searching.{first-here, first-later, first-of-none, some-here, some-later, some-of-none}
-use Rattle.settings.specs.Layout.{placeOf}
+use Rattle.settings.specs.Layout.{form1, placeOf}
 use Rattle.settings.specs.Reader.{fieldDiffers, entryDiffers, differingEntry}
 use Rattle.settings.proofs.reader.differing_entry.Statement.{statement}
 use Rattle.settings.proofs.reader.differing_entry.Tie as tie
 
 abbrev Inv-loop : tie.InvT-loop
-Inv-loop layout image passed field₀ field =
-    (field ≤ 4) × (someFrom (fieldDiffers layout image (passed + 1)) field (4 - field) ≡ entryDiffers layout image (passed + 1))
+Inv-loop image passed field₀ field =
+    (field ≤ 4) × (someFrom (fieldDiffers form1 image (passed + 1)) field (4 - field) ≡ entryDiffers form1 image (passed + 1))
 
 abbrev μ-loop : tie.MeasureT-loop
-μ-loop layout image passed field₀ field = 4 - field
+μ-loop image passed field₀ field = 4 - field
 
 abbrev Inv-search : tie.InvT-search
-Inv-search layout image passed₀ passed =
-    (passed ≤ 6) × (firstFrom (entryDiffers layout image) (passed + 1) (6 - passed) ≡ differingEntry layout image)
+Inv-search image passed₀ passed =
+    (passed ≤ 6) × (firstFrom (entryDiffers form1 image) (passed + 1) (6 - passed) ≡ differingEntry form1 image)
 
 abbrev μ-search : tie.MeasureT-search
-μ-search layout image passed₀ passed = 6 - passed
+μ-search image passed₀ passed = 6 - passed
 
 pub differing-entry-spec : {M : Type 1} → statement M
 unfolding differingEntry entryDiffers fieldDiffers
@@ -36,9 +35,7 @@ differing-entry-spec =
     μ-loop
     Inv-search
     μ-search
-    (λ c.
-    let n : length (c .before .args .layout .lengths) ≡ 6 = search needs in
-    (omega arith, rw n))
+    (λ c. (omega arith, refl))
     (λ c. (omega arith, refl))
     (λ c. omega arith)
     (λ c. omega arith)
@@ -54,10 +51,10 @@ differing-entry-spec =
     let o = c .before .before .before .before .before .before .search in
     let l = c .before .before .before .before .loop in
     let p : placeOf (o .passed + 1) (l .field) ≡ 2 + 4 * o .passed + l .field = omega arith in
-    let same : fieldDiffers (a .layout) (a .image .now) (o .passed + 1) (l .field) ≡ false =
+    let same : fieldDiffers form1 (a .image .now) (o .passed + 1) (l .field) ≡ false =
     rw (p, ← c .before .before .number16-at .ensures, ← c .before .table-number .ensures, eq-eqb _ _ (c .if2 .left)) in
     let n : 4 - l .field - 1 ≡ 4 - (l .field + 1) = omega arith in
-    (omega arith, rw (← n) (sym (some-later (fieldDiffers (a .layout) (a .image .now) (o .passed + 1)) (l .field) (4 - l .field) (omega arith) same) ∙ l .inv .1)))
+    (omega arith, rw (← n) (sym (some-later (fieldDiffers form1 (a .image .now) (o .passed + 1)) (l .field) (4 - l .field) (omega arith) same) ∙ l .inv .1)))
     (λ c. omega arith)
     (λ c. omega arith)
     (λ c.
@@ -65,22 +62,22 @@ differing-entry-spec =
     let o = c .before .before .before .search in
     let l = c .before .loop in
     let m : 4 - l .field ≡ 0 = omega arith in
-    let same : entryDiffers (a .layout) (a .image .now) (o .passed + 1) ≡ false =
-    sym (l .inv .1) ∙ rw m (some-of-none (fieldDiffers (a .layout) (a .image .now) (o .passed + 1)) (l .field)) in
+    let same : entryDiffers form1 (a .image .now) (o .passed + 1) ≡ false =
+    sym (l .inv .1) ∙ rw m (some-of-none (fieldDiffers form1 (a .image .now) (o .passed + 1)) (l .field)) in
     let n : 6 - o .passed - 1 ≡ 6 - (o .passed + 1) = omega arith in
-    (omega arith, rw (← n) (sym (first-later (entryDiffers (a .layout) (a .image .now)) (o .passed + 1) (6 - o .passed) (omega arith) same) ∙ o .inv .1)))
+    (omega arith, rw (← n) (sym (first-later (entryDiffers form1 (a .image .now)) (o .passed + 1) (6 - o .passed) (omega arith) same) ∙ o .inv .1)))
     (λ c.
     let a = c .before .before .before .args in
     let o = c .before .search in
     let m : 6 - o .passed ≡ 0 = omega arith in
-    sym (first-of-none (entryDiffers (a .layout) (a .image .now)) (o .passed + 1)) ∙ rw m at (o .inv .1))
+    sym (first-of-none (entryDiffers form1 (a .image .now)) (o .passed + 1)) ∙ rw m at (o .inv .1))
     (λ c.
     let a = c .before .before .before .before .before .before .before .before .args in
     let o = c .before .before .before .before .before .before .search in
     let l = c .before .before .before .before .loop in
     let p : placeOf (o .passed + 1) (l .field) ≡ 2 + 4 * o .passed + l .field = omega arith in
-    let other : fieldDiffers (a .layout) (a .image .now) (o .passed + 1) (l .field) ≡ true =
+    let other : fieldDiffers form1 (a .image .now) (o .passed + 1) (l .field) ≡ true =
     rw (p, ← c .before .before .number16-at .ensures, ← c .before .table-number .ensures, ne-eqb _ _ (c .if2 .taken)) in
-    let differs : entryDiffers (a .layout) (a .image .now) (o .passed + 1) ≡ true =
-    sym (l .inv .1) ∙ some-here (fieldDiffers (a .layout) (a .image .now) (o .passed + 1)) (l .field) (4 - l .field) (omega arith) other in
-    sym (first-here (entryDiffers (a .layout) (a .image .now)) (o .passed + 1) (6 - o .passed) (omega arith) differs) ∙ o .inv .1))
+    let differs : entryDiffers form1 (a .image .now) (o .passed + 1) ≡ true =
+    sym (l .inv .1) ∙ some-here (fieldDiffers form1 (a .image .now) (o .passed + 1)) (l .field) (4 - l .field) (omega arith) other in
+    sym (first-here (entryDiffers form1 (a .image .now)) (o .passed + 1) (6 - o .passed) (omega arith) differs) ∙ o .inv .1))

@@ -1,6 +1,4 @@
 -- `settings::reader::form_unknown` meets its contract: the form, then the count.
-use mathlib.Core.Path.{_≡_}
-use lib.ListN.{length}
 use borrow.Author.Needs.{needs}
 use borrow.Author.Tests.{eq-eqb, ne-eqb}
 use Rattle.octets.specs.Choice.{pick}
@@ -14,9 +12,7 @@ form-unknown-spec =
     tie.close
     (tie.spec
     (λ c κs. search needs)
-    (λ c. rw (← c .before .before .number16-at .ensures, ne-eqb _ _ (c .if1 .taken)))
+    (λ c. rw (← c .before .number16-at .ensures, ne-eqb _ _ (c .if1 .taken)))
     (λ c κs. search needs)
     (λ c. search needs)
-    (λ c.
-    let n : length (c .before .before .before .before .before .args .layout .lengths) ≡ 6 = search needs in
-    rw (← c .before .before .before .number16-at .ensures, eq-eqb _ _ (c .before .if1 .left), n, c .number16-at2 .ensures)))
+    (λ c. rw (← c .before .before .number16-at .ensures, eq-eqb _ _ (c .before .if1 .left), c .number16-at2 .ensures)))

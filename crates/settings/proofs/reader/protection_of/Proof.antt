@@ -1,5 +1,4 @@
 -- `settings::reader::protection_of` meets its contract: the bytes take the whole array.
-use native.Mathlib.Omega.{arith}
 use borrow.Author.Needs.{needs}
 use mathlib.Core.Path.{_∙_, sym}
 use lib.ListN.{replicate}

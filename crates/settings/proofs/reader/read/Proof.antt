@@ -18,5 +18,4 @@ read-spec =
     (λ c κs. search needs)
     (λ c. rw (eq-eqb _ _ (c .before .before .before .before .if1 .left), ← c .before .before .before .all-are .ensures, c .before .before .if2 .taken, c .accepting .ensures, c .before .blank .ensures))
     (λ c κs. search needs)
-    (λ c κs. search needs)
-    (λ c. rw (eq-eqb _ _ (c .before .before .before .before .if1 .left), ← c .before .before .before .all-are .ensures, c .before .before .if2 .left, c .read-written .ensures, c .before .form-1 .ensures)))
+    (λ c. rw (eq-eqb _ _ (c .before .before .before .if1 .left), ← c .before .before .all-are .ensures, c .before .if2 .left, c .read-written .ensures)))

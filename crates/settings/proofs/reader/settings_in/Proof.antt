@@ -1,6 +1,6 @@
 -- `settings::reader::settings_in` meets its contract: each body at its place.
-use borrow.Author.Needs.{needs}
 use native.Mathlib.Omega.{arith}
+use borrow.Author.Needs.{needs}
 use Rattle.octets.proofs.Parts.{length-part}
 use Rattle.settings.specs.Layout.{offsetOf, sumOf}
 use Rattle.settings.specs.Reader.{settingsIn}
@@ -14,10 +14,10 @@ settings-in-spec =
     (tie.spec
     (λ c κs. search needs)
     (λ c κs. search needs)
-    (λ c κs. rw (c .body-in .ensures, c .before .before .before .pre .0) (length-part 118 8 (c .before .before .before .args .image .now) (omega arith)))
+    (λ c κs. rw (c .body-in .ensures) (length-part 118 8 (c .before .before .before .args .image .now) (omega arith)))
     (λ c κs. search needs)
-    (λ c κs. rw (c .body-in2 .ensures, c .before .before .before .before .before .pre .0) (length-part 52 32 (c .before .before .before .before .before .args .image .now) (omega arith)))
+    (λ c κs. rw (c .body-in2 .ensures) (length-part 52 32 (c .before .before .before .before .before .args .image .now) (omega arith)))
     (λ c κs. search needs)
-    (λ c κs. rw (c .body-in3 .ensures, c .before .before .before .before .before .before .before .pre .0) (length-part 84 16 (c .before .before .before .before .before .before .before .args .image .now) (omega arith)))
+    (λ c κs. rw (c .body-in3 .ensures) (length-part 84 16 (c .before .before .before .before .before .before .before .args .image .now) (omega arith)))
     (λ c.
     rw (c .reset-password-of .ensures, c .before .body-in3 .ensures, c .before .before .password-of .ensures, c .before .before .before .body-in2 .ensures, c .before .before .before .before .protection-of .ensures, c .before .before .before .before .before .body-in .ensures, c .before .before .before .before .before .before .shown-in .ensures)))

@@ -1,6 +1,6 @@
 -- `settings::reader::value_not_allowed` meets its contract: the values, then the zero byte.
-use borrow.Author.Tests.{not-true, not-false}
 use borrow.Author.Needs.{needs}
+use borrow.Author.Tests.{not-true, not-false}
 use Rattle.octets.specs.Choice.{pick}
 use Rattle.settings.specs.Reader.{valueNotAllowed}
 use Rattle.settings.proofs.reader.value_not_allowed.Statement.{statement}

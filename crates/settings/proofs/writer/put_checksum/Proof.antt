@@ -1,5 +1,5 @@
 -- `settings::writer::put_checksum` meets its contract: the checksum of the bytes before it.
-use mathlib.Core.Path.{_≡_, refl, sym, ap, _∙_}
+use mathlib.Core.Path.{sym}
 use native.Mathlib.Omega.{arith}
 use borrow.Author.Needs.{needs}
 use lib.Seq.{length-take-le}

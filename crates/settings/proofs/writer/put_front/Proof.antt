@@ -2,13 +2,15 @@
 use mathlib.Core.Path.{_≡_}
 use borrow.Author.Needs.{needs}
 use lib.ListN.{length}
-use Rattle.settings.specs.Layout.{offsetOf, sumOf}
 use Rattle.settings.proofs.WriterLaws.{front-joined}
 use Rattle.settings.proofs.writer.put_front.Statement.{statement}
 use Rattle.settings.proofs.writer.put_front.Tie as tie
 
+-- every value of the struct has arrays of these lengths
+sizes : (start : tie.Start) → (length (start .args .settings .password) ≡ 32) × (length (start .args .settings .«reset_password») ≡ 16) × (length (start .args .settings .protection) ≡ 8)
+sizes start = (search needs, search needs, search needs)
+
 pub put-front-spec : {M : Type 1} → statement M
-unfolding offsetOf sumOf
 put-front-spec =
     tie.close
     (tie.spec
@@ -17,9 +19,7 @@ put-front-spec =
     (λ c κs. search needs)
     (λ c. search needs)
     (λ c.
-    let a = c .before .before .before .before .before .before .before .before .before .before .before .before .before in
-    let p : length (a .args .settings .password) ≡ 32 = search needs in
-    let r : length (a .args .settings .«reset_password») ≡ 16 = search needs in
-    let q : length (a .args .settings .protection) ≡ 8 = search needs in
-    rw (c .before .before .put-filler .ensures, c .before .before .before .before .before .before .put-bodies .ensures, c .before .before .before .before .before .before .before .before .before .before .put-table .ensures, a .pre .0)
-    (front-joined (a .args .settings) p r q (a .args .image .now))))
+    let start = c .before .before .before .before .before .before .before .before .before .before .before .before .before in
+    let n = sizes start in
+    rw (c .before .before .put-filler .ensures, c .before .before .before .before .before .before .put-bodies .ensures, c .before .before .before .before .before .before .before .before .before .before .put-table .ensures)
+    (front-joined (start .args .settings) (n .0) (n .1) (n .2) (start .args .image .now))))

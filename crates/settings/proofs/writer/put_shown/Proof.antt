@@ -14,5 +14,5 @@ put-shown-spec =
     (λ c κs. search needs)
     (λ c. search needs)
     (λ c.
-    let a = c .before .before .before .before .before .before .before .before .before in
-    rw (c .before .before .put-numbers .ensures, c .before .before .before .before .before .before .put-values .ensures, a .pre) (shown-joined (a .args .image .now) (a .args .shown))))
+    let a = c .before .before .before .before .before .before .before .before .before .args in
+    rw (c .before .before .put-numbers .ensures, c .before .before .before .before .before .before .put-values .ensures) (shown-joined (a .image .now) (a .shown))))

@@ -1,25 +1,25 @@
 -- `settings::writer::put_table` meets its contract: storing the numbers left makes the whole table.
 use mathlib.Core.Path.{_≡_, refl, sym, ap, _∙_}
-use Prim.Native.Nat.{_+_, _-_, _*_, _≤_}
+use Prim.Native.Nat.{_-_, _*_, _≤_}
 use native.Mathlib.Omega.{arith}
 use borrow.Author.Needs.{needs}
 use mathlib.Core.List.{[]}
 use lib.ListN.{length, drop, drop-of-length-le}
 use lib.Seq.{sets, length-sets}
 use Rattle.octets.specs.Number.{bytesOf}
-use Rattle.settings.specs.Layout.{tableOf}
+use Rattle.settings.specs.Layout.{form1, tableOf}
 use Rattle.settings.specs.Image.{pairsOf}
 use Rattle.settings.proofs.WriterLaws.{length-table, put-next}
 use Rattle.settings.proofs.writer.put_table.Statement.{statement}
 use Rattle.settings.proofs.writer.put_table.Tie as tie
 
 abbrev Inv-loop : tie.InvT-loop
-Inv-loop image₀ layout place₀ image place =
-    (place ≤ 26) × (length (tableOf layout) ≡ 26) × (length image ≡ length image₀)
-    × (sets image (2 * place) (pairsOf (drop place (tableOf layout))) ≡ sets image₀ 0 (pairsOf (tableOf layout)))
+Inv-loop image₀ place₀ image place =
+    (place ≤ 26) × (length (tableOf form1) ≡ 26) × (length image ≡ length image₀)
+    × (sets image (2 * place) (pairsOf (drop place (tableOf form1))) ≡ sets image₀ 0 (pairsOf (tableOf form1)))
 
 abbrev μ-loop : tie.MeasureT-loop
-μ-loop image₀ layout place₀ image place = 26 - place
+μ-loop image₀ place₀ image place = 26 - place
 
 pub put-table-spec : {M : Type 1} → statement M
 unfolding pairsOf
@@ -28,9 +28,7 @@ put-table-spec =
     (tie.spec
     Inv-loop
     μ-loop
-    (λ c.
-    let n : length (c .before .args .layout .lengths) ≡ 6 = search needs in
-    (omega arith, omega (arith, length-table (c .before .args .layout)), refl, refl))
+    (λ c. (omega arith, length-table form1, refl, refl))
     (λ c κs. omega arith)
     (λ c. omega arith)
     (λ c. search needs)
@@ -38,17 +36,15 @@ put-table-spec =
     (λ c. omega arith)
     (λ c. omega arith)
     (λ c.
-    let a = c .before .before .before .before .before .before .before .before .args in
     let l = c .before .before .before .before .before .before .loop in
     let p = c .before .before .put-number in (
       omega arith,
       l .inv .1,
       omega (arith, ap length (p .ensures), length-sets (l .image) (2 * l .place) (bytesOf 2 (c .before .before .before .before .table-number .result))),
-      rw (p .ensures, c .before .before .before .before .table-number .ensures) (sym (put-next (l .image) (tableOf (a .layout)) (l .place) (omega arith)) ∙ l .inv .3),
+      rw (p .ensures, c .before .before .before .before .table-number .ensures) (sym (put-next (l .image) (tableOf form1) (l .place) (omega arith)) ∙ l .inv .3),
     ))
     (λ c. omega arith)
     (λ c.
-    let a = c .before .before .before .args in
     let l = c .before .loop in
-    let none : drop (l .place) (tableOf (a .layout)) ≡ [] = drop-of-length-le (tableOf (a .layout)) {i = l .place} (omega arith) in
+    let none : drop (l .place) (tableOf form1) ≡ [] = drop-of-length-le (tableOf form1) {i = l .place} (omega arith) in
     rw none at (l .inv .3)))

@@ -1,5 +1,4 @@
 -- `settings::writer::put_values` meets its contract: the six bytes of body 3 at its offset.
-use mathlib.Core.Path.{_≡_, refl, sym, ap, _∙_}
 use borrow.Author.Needs.{needs}
 use Rattle.octets.specs.Number.{bytesOf}
 use Rattle.settings.proofs.writer.put_values.Statement.{statement}
@@ -13,7 +12,6 @@ put-values-spec =
     (λ c. search needs)
     (λ c. search needs)
     (λ c κs. search needs)
-    (λ c. search needs)
     (λ c. search needs)
     (λ c κs. search needs)
     (λ c. search needs)

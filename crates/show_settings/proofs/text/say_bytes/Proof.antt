@@ -1,7 +1,6 @@
 -- `show_settings::text::say_bytes` meets its contract: the end of the loop is the length of the bytes, so each index is below it.
 use mathlib.Core.Path.{_≡_}
 use Prim.Native.Nat.{_-_}
-use native.Mathlib.Omega.{arith}
 use lib.ListN.{length}
 use borrow.Author.Needs.{needs}
 use Rattle.show_settings.proofs.text.say_bytes.Statement.{statement}
