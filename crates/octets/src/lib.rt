@@ -1,15 +1,22 @@
-// Bytes read: one, some, numbers of two and four, and a test at each.
+// Bytes read: one, some, numbers of two and four, a test at each, and how many there are.
 ghost use mathlib.Core.Path.{_≡_};
-ghost use Prim.Native.Nat.{min};
+ghost use Prim.Native.Nat.{_-_, min};
 ghost use lib.ListN.{getD};
 ghost use Rattle.octets.specs.Number.{part, numberAt};
 ghost use Rattle.octets.specs.Search.{allAre};
 
 // The lesser of two numbers.
-fn least(a: usize, b: usize) -> usize
+pub fn least(a: usize, b: usize) -> usize
     ensures { λ r. ⌜ r ≡ min a b ⌝ }
 {
     if a < b { a } else { b }
+}
+
+// How many of so many bytes stand from a place on.
+pub fn room(size: usize, at: usize) -> usize
+    ensures { λ r. ⌜ r ≡ size - at ⌝ }
+{
+    if at < size { size - at } else { 0 }
 }
 
 // The byte at a place, 0 past the end.

@@ -1,0 +1,75 @@
+// The acknowledgement of a packet: what is wrong with its framing, the first that applies.
+ghost use mathlib.Core.Path.{_≡_};
+ghost use Rattle.wire.specs.Packet.{lengthIn};
+ghost use Rattle.wire.specs.Acknowledgement.{isRate, checksumDiffers, rateUnknown, acknowledgement};
+use crate::CORE_AT;
+use crate::FIRST_AT;
+use crate::LENGTH_AT;
+use crate::PACKET_FRAME;
+use crate::codes;
+
+// The core length L that a packet tells.
+pub(crate) fn length_in(packet: &[u8]) -> u16
+    ensures { λ r. ⌜ r ≡ lengthIn (now (packet .entry)) ⌝ }
+{
+    octets::number16_at(packet, LENGTH_AT)
+}
+
+// Whether this is the id of a rate.
+pub fn is_rate(id: u8) -> bool
+    ensures { λ r. ⌜ r ≡ isRate id ⌝ }
+{
+    if id < 1 {
+        return false;
+    }
+    id <= 9
+}
+
+fn checksum_differs(packet: &[u8]) -> bool
+    ensures { λ r. ⌜ r ≡ checksumDiffers (now (packet .entry)) ⌝ }
+{
+    let length = length_in(packet) as usize;
+    let core = octets::part_of(packet, CORE_AT, length);
+    octets::number32_at(packet, CORE_AT + length) != checksum::checksum_of(core)
+}
+
+fn rate_unknown(packet: &[u8]) -> bool
+    ensures { λ r. ⌜ r ≡ rateUnknown (now (packet .entry)) ⌝ }
+{
+    if octets::byte_at(packet, CORE_AT) != codes::RATE {
+        return false;
+    }
+    if length_in(packet) != 2 {
+        return true;
+    }
+    !is_rate(octets::byte_at(packet, FIRST_AT))
+}
+
+// The acknowledgement of any bytes, none among them.
+pub fn acknowledge(packet: &[u8]) -> u8
+    ensures { λ r. ⌜ r ≡ acknowledgement (now (packet .entry)) ⌝ }
+{
+    if octets::byte_at(packet, 0) != codes::COMMAND_HEADER {
+        return codes::HEADER_INCORRECT;
+    }
+    if packet.len() < CORE_AT {
+        return codes::UNKNOWN_ERROR;
+    }
+    let length = length_in(packet);
+    if length == 0 {
+        return codes::SIZE_ZERO;
+    }
+    if codes::LENGTH_LIMIT < length {
+        return codes::SIZE_TOO_BIG;
+    }
+    if packet.len() != length as usize + PACKET_FRAME {
+        return codes::UNKNOWN_ERROR;
+    }
+    if checksum_differs(packet) {
+        return codes::CHECKSUM_INCORRECT;
+    }
+    if rate_unknown(packet) {
+        return codes::UNKNOWN_RATE;
+    }
+    codes::ACKNOWLEDGED
+}
