@@ -7,3 +7,5 @@ pub mod Written
 pub mod Accepted
 -- SettingsRule: the settings image is read and written by one rule.
 pub mod SettingsRule
+-- OneAnswer: each promise has one answer only.
+pub mod OneAnswer

@@ -14,7 +14,7 @@ use Rattle.octets.proofs.Parts.{each-replicate}
 use Rattle.octets.proofs.Searching.{pick-both, pick-false, replicate-all-are}
 use Rattle.settings.specs.declared.Settings.{Settings}
 use Rattle.settings.specs.Layout.{form1, imageSize}
-use Rattle.settings.specs.Values.{isAllowed, blankSettings}
+use Rattle.settings.specs.Values.{isAllowed, blankSettings, noSettings}
 use Rattle.settings.specs.Image.{imageOf}
 use Rattle.settings.specs.Answer.{ReadTold, accepted, refused, refusedAt, writeLeft}
 use Rattle.settings.specs.Reader.{settingsIn, isBlank, checksumDiffers, formUnknown, differingEntry, fillerDiffers, valueNotAllowed, readWritten, readOf}
@@ -121,3 +121,10 @@ blank-held = record {
 pub blank-written-reads : (area : List ℕ) → length area ≡ imageSize → readOf form1 (writeOf form1 blankSettings area .image) ≡ accepted blankSettings
 unfolding isAllowed pick
 blank-written-reads area size = read-after-write blankSettings area blank-held size refl
+
+-- ---- what stands beside a refusal
+
+-- a caller that overlooks a refusal is refused in turn
+pub no-settings-are-refused : (area : List ℕ) → length area ≡ imageSize → writeOf form1 noSettings area ≡ writeLeft 8 area
+unfolding writeOf isAllowed pick
+no-settings-are-refused area size = rw (eq-eqb (length area) imageSize size)

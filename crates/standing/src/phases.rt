@@ -1,0 +1,56 @@
+// How a session stands at start, and which standings are valid.
+ghost use mathlib.Core.Path.{_≡_};
+ghost use Rattle.standing.specs.Phases.{atStart, isValidPhase, isValid};
+use crate::FIRST_RATE;
+use crate::MOST_IDLE;
+use crate::MOST_SLEEP;
+use crate::MOST_WRONG;
+use crate::Phase;
+use crate::Standing;
+
+// How a session stands at start.
+pub fn at_start() -> Standing
+    ensures { λ r. ⌜ r ≡ atStart ⌝ }
+{
+    Standing {
+        phase: Phase::Detect,
+        idle: 0,
+        wrong: 0,
+        rate: FIRST_RATE,
+    }
+}
+
+// Whether lock and sleep go together.
+fn is_valid_phase(phase: Phase) -> bool
+    ensures { λ r. ⌜ r ≡ isValidPhase phase ⌝ }
+{
+    match phase {
+        Phase::Detect => true,
+        Phase::Command { unlocked, sleep } => {
+            if unlocked {
+                return sleep == 0;
+            }
+            sleep <= MOST_SLEEP
+        }
+        Phase::Standby => true,
+        Phase::Ended => true,
+        Phase::Disabled => true,
+    }
+}
+
+// Whether a record may say that a session stands so.
+pub fn is_valid(standing: Standing) -> bool
+    ensures { λ r. ⌜ r ≡ isValid standing ⌝ }
+{
+    if MOST_IDLE < standing.idle {
+        return false;
+    }
+    if MOST_WRONG < standing.wrong {
+        return false;
+    }
+    if !wire::is_rate(standing.rate) {
+        return false;
+    }
+    let phase = standing.phase;
+    is_valid_phase(phase)
+}

@@ -1,0 +1,96 @@
+// How time passes: sleep is used up first, and the rest of a wait is idle time.
+ghost use mathlib.Core.Path.{_≡_};
+ghost use Rattle.standing.specs.Waits.{isIdleTooLong, movedTo, detectIdles, commandIdles, passTime};
+use crate::IDLE_LIMIT;
+use crate::Passed;
+use crate::Phase;
+use crate::Standing;
+
+// Whether idle time reaches the limit with so much more. The sum may need more than 32 bits.
+fn is_idle_too_long(standing: Standing, rest: u32) -> bool
+    ensures { λ r. ⌜ r ≡ isIdleTooLong standing rest ⌝ }
+{
+    IDLE_LIMIT as u64 <= standing.idle as u64 + rest as u64
+}
+
+// Another phase and idle time; the wrong count and the rate stay.
+fn moved_to(standing: Standing, phase: Phase, idle: u32) -> Standing
+    ensures { λ r. ⌜ r ≡ movedTo standing phase idle ⌝ }
+{
+    Standing {
+        phase,
+        idle,
+        wrong: standing.wrong,
+        rate: standing.rate,
+    }
+}
+
+fn detect_idles(standing: Standing, rest: u32) -> Passed
+    ensures { λ r. ⌜ r ≡ detectIdles standing rest ⌝ }
+{
+    if is_idle_too_long(standing, rest) {
+        return Passed {
+            standing: moved_to(standing, Phase::Standby, 0),
+            heard: false,
+        };
+    }
+    Passed {
+        standing: moved_to(standing, Phase::Detect, standing.idle + rest),
+        heard: true,
+    }
+}
+
+fn command_idles(standing: Standing, unlocked: bool, rest: u32) -> Passed
+    ensures { λ r. ⌜ r ≡ commandIdles standing unlocked rest ⌝ }
+{
+    if is_idle_too_long(standing, rest) {
+        let locked = Phase::Command {
+            unlocked: false,
+            sleep: 0,
+        };
+        return Passed {
+            standing: moved_to(standing, locked, 0),
+            heard: true,
+        };
+    }
+    let awake = Phase::Command { unlocked, sleep: 0 };
+    Passed {
+        standing: moved_to(standing, awake, standing.idle + rest),
+        heard: true,
+    }
+}
+
+// How a session stands after a wait of so many milliseconds. The packet that came then is heard, or it is dropped.
+pub fn pass_time(standing: Standing, wait: u32) -> Passed
+    ensures { λ r. ⌜ r ≡ passTime standing wait ⌝ }
+{
+    let phase = standing.phase;
+    match phase {
+        Phase::Detect => detect_idles(standing, wait),
+        Phase::Command { unlocked, sleep } => {
+            if wait < sleep {
+                let asleep = Phase::Command {
+                    unlocked,
+                    sleep: sleep - wait,
+                };
+                return Passed {
+                    standing: moved_to(standing, asleep, standing.idle),
+                    heard: false,
+                };
+            }
+            command_idles(standing, unlocked, wait - sleep)
+        }
+        Phase::Standby => Passed {
+            standing,
+            heard: false,
+        },
+        Phase::Ended => Passed {
+            standing,
+            heard: false,
+        },
+        Phase::Disabled => Passed {
+            standing,
+            heard: false,
+        },
+    }
+}
