@@ -1,6 +1,6 @@
 -- What the reader's tests say of an accepted image: its parts are those that the writer would put there.
 use mathlib.Core.Path.{_≡_, sym, ap, ap₂, _∙_}
-use mathlib.Core.Bool.{true, false}
+use mathlib.Core.Bool.{true, false, true≢false}
 use mathlib.Core.List.{List, [], _∷_, _++_}
 use Prim.Native.Nat.{ℕ, zero, suc, _+_, _-_, _*_, _/_, _%_, _≤_, _<_}
 use native.Mathlib.Omega.{arith}
@@ -12,7 +12,7 @@ use Rattle.octets.specs.Number.{numberOf, bytesOf, part, numberAt}
 use Rattle.octets.specs.Search.{allAre}
 use Rattle.octets.proofs.Numbers.{bytes-of-number}
 use Rattle.octets.proofs.Parts.{length-part, parts-join, part-of-part, each-part}
-use Rattle.octets.proofs.Searching.{pick-both, all-are-replicate, first-none, some-none}
+use Rattle.octets.proofs.Searching.{pick-both, all-are-replicate, none-passes}
 use Rattle.checksum.specs.Checksum.{checksumOf}
 use Rattle.settings.specs.Layout.{form1, offsetOf, sumOf, tableOf, placeOf}
 use Rattle.settings.specs.Table.{filler-from-126}
@@ -47,7 +47,7 @@ module _ (image : List ℕ) (size : length image ≡ 1024) (each : (k : ℕ) →
   field-same : (n f : ℕ) → 1 ≤ n → n < 7 → f < 4 → numberAt (2 * placeOf n f) 2 image ≡ getD (tableOf form1) (placeOf n f) 0
   unfolding differingEntry entryDiffers fieldDiffers
   field-same n f l u h =
-      eqb-true _ _ (not-false _ (some-none (fieldDiffers form1 image n) 0 4 (first-none (entryDiffers form1 image) 1 6 (omega arith) entries n l u) f (omega arith) (omega arith)))
+      eqb-true _ _ (not-false _ (none-passes (λ k. true) false (fieldDiffers form1 image n) 0 4 (λ k b e. true≢false e) (none-passes (λ k. k) 0 (entryDiffers form1 image) 1 6 (λ k b e. omega arith) entries n l u) f (omega arith) (omega arith)))
 
   table-same : (i : ℕ) → i < length (tableOf form1) → numberAt (2 * i) 2 image ≡ getD (tableOf form1) i 0
   unfolding tableOf

@@ -13,7 +13,7 @@ use Rattle.octets.specs.Number.{numberOf, bytesOf, part, numberAt}
 use Rattle.octets.specs.Search.{allAre}
 use Rattle.octets.proofs.Numbers.{length-bytesOf, number-of-bytes, each-bytesOf}
 use Rattle.octets.proofs.Parts.{part-there, from-next, each-none, each-cons, each-append, each-replicate}
-use Rattle.octets.proofs.Searching.{pick-both, replicate-all-are, none-first, none-some}
+use Rattle.octets.proofs.Searching.{pick-both, replicate-all-are, none-found}
 use Rattle.octets.proofs.Table.{test-at}
 use Rattle.checksum.specs.Checksum.{checksumOf}
 use Rattle.checksum.proofs.Laws.{checksum-of-fits}
@@ -227,8 +227,8 @@ module _ (s : Settings) (held : Held s) (allowed : isAllowed (s .shown) ≡ true
   no-entry-differs : differingEntry form1 image ≡ 0
   unfolding differingEntry entryDiffers fieldDiffers
   no-entry-differs =
-      none-first (entryDiffers form1 image) 1 6 (λ n l u.
-      none-some (fieldDiffers form1 image n) 0 4 (λ f k v.
+      none-found (λ n. n) 0 (entryDiffers form1 image) 1 6 (λ n l u.
+      none-found (λ n. true) false (fieldDiffers form1 image n) 0 4 (λ f k v.
       rw (table-there (placeOf n f) (omega arith), eq-eqb (getD (tableOf form1) (placeOf n f) 0) (getD (tableOf form1) (placeOf n f) 0) refl)))
 
   filler-size : length (fillerOf form1) ≡ 894

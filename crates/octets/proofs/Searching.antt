@@ -12,7 +12,7 @@ use lib.Dec.{eqb}
 use lib.ListN.{length, getD, drop, replicate, drop-of-length-le}
 use lib.Seq.{drop-cons}
 use Rattle.octets.specs.Choice.{pick}
-use Rattle.octets.specs.Search.{allAre, firstFrom, someFrom}
+use Rattle.octets.specs.Search.{allAre, searchFrom}
 
 module _ {A : Type 0} where
   pub pick-true : {test : Bool} (first other : A) → test ≡ true → pick test first other ≡ first
@@ -62,76 +62,41 @@ unfolding allAre
 replicate-all-are value zero = refl
 replicate-all-are value (suc count) = pick-true _ false (eq-eqb value value refl) ∙ replicate-all-are value count
 
--- ---- the first number that passes
+-- ---- a search of numbers
 
-module _ (passes : ℕ → Bool) where
-  pub first-here : (from count : ℕ) → 0 < count → passes from ≡ true → firstFrom passes from count ≡ from
-  unfolding firstFrom
-  first-here from zero h e = absurd (omega arith)
-  first-here from (suc count) h e = pick-true from _ e
+module _ {A : Type 0} (found : ℕ → A) (none : A) (passes : ℕ → Bool) where
+  pub search-here : (from count : ℕ) → 0 < count → passes from ≡ true → searchFrom found none passes from count ≡ found from
+  unfolding searchFrom
+  search-here from zero h e = absurd (omega arith)
+  search-here from (suc count) h e = pick-true (found from) _ e
 
-  pub first-later : (from count : ℕ) → 0 < count → passes from ≡ false → firstFrom passes from count ≡ firstFrom passes (from + 1) (count - 1)
-  unfolding firstFrom
-  first-later from zero h e = absurd (omega arith)
-  first-later from (suc count) h e =
+  pub search-later : (from count : ℕ) → 0 < count → passes from ≡ false
+      → searchFrom found none passes from count ≡ searchFrom found none passes (from + 1) (count - 1)
+  unfolding searchFrom
+  search-later from zero h e = absurd (omega arith)
+  search-later from (suc count) h e =
       let n : suc count - 1 ≡ count = omega arith in
-      pick-false from _ e ∙ rw (add-one, n)
+      pick-false (found from) _ e ∙ rw (add-one, n)
 
-  pub first-of-none : (from : ℕ) → firstFrom passes from 0 ≡ 0
-  unfolding firstFrom
-  first-of-none from = refl
+  pub search-of-none : (from : ℕ) → searchFrom found none passes from 0 ≡ none
+  unfolding searchFrom
+  search-of-none from = refl
 
-  -- where none passes there is no first, and where there is no first none passes
-  pub none-first : (from count : ℕ) → ((k : ℕ) → from ≤ k → k < from + count → passes k ≡ false) → firstFrom passes from count ≡ 0
-  unfolding firstFrom
-  none-first from zero none = refl
-  none-first from (suc count) none =
-      pick-false from _ (none from (omega arith) (omega arith))
-      ∙ none-first (suc from) count (λ k l u. none k (omega arith) (omega arith))
+  -- where none passes none is found, and where none is found none passes
+  pub none-found : (from count : ℕ) → ((k : ℕ) → from ≤ k → k < from + count → passes k ≡ false) → searchFrom found none passes from count ≡ none
+  unfolding searchFrom
+  none-found from zero all = refl
+  none-found from (suc count) all =
+      pick-false (found from) _ (all from (omega arith) (omega arith))
+      ∙ none-found (suc from) count (λ k l u. all k (omega arith) (omega arith))
 
-  pub first-none : (from count : ℕ) → 0 < from → firstFrom passes from count ≡ 0
+  pub none-passes : (from count : ℕ) → ((n : ℕ) → from ≤ n → found n ≡ none → ⊥) → searchFrom found none passes from count ≡ none
       → (k : ℕ) → from ≤ k → k < from + count → passes k ≡ false
-  unfolding firstFrom
-  first-none from zero p e k l u = absurd (omega arith)
-  first-none from (suc count) p e k l u =
+  unfolding searchFrom
+  none-passes from zero differs e k l u = absurd (omega arith)
+  none-passes from (suc count) differs e k l u =
       by-test (passes from)
-      (λ y. absurd (omega (arith, sym (pick-true from (firstFrom passes (suc from) count) y) ∙ e)))
+      (λ y. absurd (differs from (omega arith) (sym (pick-true (found from) (searchFrom found none passes (suc from) count) y) ∙ e)))
       (λ n. ⊎-elim (λ q. ap passes (sym q) ∙ n)
-      (λ w. first-none (suc from) count (omega arith) (sym (pick-false from (firstFrom passes (suc from) count) n) ∙ e) k w (omega arith))
-      (eq-or-lt-of-le l))
-
--- ---- one of the numbers passes
-
-module _ (passes : ℕ → Bool) where
-  pub some-here : (from count : ℕ) → 0 < count → passes from ≡ true → someFrom passes from count ≡ true
-  unfolding someFrom
-  some-here from zero h e = absurd (omega arith)
-  some-here from (suc count) h e = pick-true true _ e
-
-  pub some-later : (from count : ℕ) → 0 < count → passes from ≡ false → someFrom passes from count ≡ someFrom passes (from + 1) (count - 1)
-  unfolding someFrom
-  some-later from zero h e = absurd (omega arith)
-  some-later from (suc count) h e =
-      let n : suc count - 1 ≡ count = omega arith in
-      pick-false true _ e ∙ rw (add-one, n)
-
-  pub some-of-none : (from : ℕ) → someFrom passes from 0 ≡ false
-  unfolding someFrom
-  some-of-none from = refl
-
-  pub none-some : (from count : ℕ) → ((k : ℕ) → from ≤ k → k < from + count → passes k ≡ false) → someFrom passes from count ≡ false
-  unfolding someFrom
-  none-some from zero none = refl
-  none-some from (suc count) none =
-      pick-false true _ (none from (omega arith) (omega arith))
-      ∙ none-some (suc from) count (λ k l u. none k (omega arith) (omega arith))
-
-  pub some-none : (from count : ℕ) → someFrom passes from count ≡ false → (k : ℕ) → from ≤ k → k < from + count → passes k ≡ false
-  unfolding someFrom
-  some-none from zero e k l u = absurd (omega arith)
-  some-none from (suc count) e k l u =
-      by-test (passes from)
-      (λ y. absurd (true≢false (sym (pick-true true (someFrom passes (suc from) count) y) ∙ e)))
-      (λ n. ⊎-elim (λ q. ap passes (sym q) ∙ n)
-      (λ w. some-none (suc from) count (sym (pick-false true (someFrom passes (suc from) count) n) ∙ e) k w (omega arith))
+      (λ w. none-passes (suc from) count (λ m b. differs m (omega arith)) (sym (pick-false (found from) (searchFrom found none passes (suc from) count) n) ∙ e) k w (omega arith))
       (eq-or-lt-of-le l))

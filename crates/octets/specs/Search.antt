@@ -10,12 +10,16 @@ unfoldable pub allAre : ℕ → List ℕ → Bool
 allAre value [] = true
 allAre value (byte ∷ bytes) = pick (eqb byte value) (allAre value bytes) false
 
--- the first of the numbers from, from + 1, .. that passes, of so many; 0 where none does
-unfoldable pub firstFrom : (ℕ → Bool) → ℕ → ℕ → ℕ
-firstFrom passes from zero = 0
-firstFrom passes from (suc count) = pick (passes from) from (firstFrom passes (suc from) count)
+-- a search of the numbers from, from + 1, .., so many of them: what is found at the first that passes, or what stands for none
+module _ {A : Type 0} (found : ℕ → A) (none : A) (passes : ℕ → Bool) where
+  unfoldable pub searchFrom : ℕ → ℕ → A
+  searchFrom from zero = none
+  searchFrom from (suc count) = pick (passes from) (found from) (searchFrom (suc from) count)
 
--- one of the numbers from, from + 1, .. passes, of so many
-unfoldable pub someFrom : (ℕ → Bool) → ℕ → ℕ → Bool
-someFrom passes from zero = false
-someFrom passes from (suc count) = pick (passes from) true (someFrom passes (suc from) count)
+-- the first that passes; 0 where none does
+abbrev pub firstFrom : (ℕ → Bool) → ℕ → ℕ → ℕ
+firstFrom = searchFrom (λ number. number) 0
+
+-- whether one of them passes
+abbrev pub someFrom : (ℕ → Bool) → ℕ → ℕ → Bool
+someFrom = searchFrom (λ number. true) false

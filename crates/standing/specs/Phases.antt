@@ -8,10 +8,11 @@ use Rattle.standing.specs.declared.Phase.the-variants.{Detect, Command, 
 use Rattle.standing.specs.declared.Standing.{Standing}
 use Rattle.wire.specs.Acknowledgement.{isRate}
 
--- "Start gives detect, idle 0, sleep 0, wrong count 0, rate id 2." Detect has no sleep.
+-- "rate id 2": at start, and after a wrong password
 abbrev pub firstRate : ℕ
 firstRate = 2
 
+-- "Start gives detect, idle 0, sleep 0, wrong count 0, rate id 2." Detect has no sleep.
 unfoldable pub atStart : Standing
 atStart = record { phase = Detect; idle = 0; wrong = 0; rate = firstRate }
 

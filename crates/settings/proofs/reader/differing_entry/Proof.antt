@@ -6,7 +6,7 @@ use native.Mathlib.Omega.{arith}
 use borrow.Author.Needs.{needs}
 use borrow.Author.Tests.{eq-eqb, ne-eqb}
 use Rattle.octets.specs.Search.{firstFrom, someFrom}
-use Rattle.octets.proofs.Searching.{first-here, first-later, first-of-none, some-here, some-later, some-of-none}
+use Rattle.octets.proofs.Searching.{search-here, search-later, search-of-none}
 use Rattle.settings.specs.Layout.{form1, placeOf}
 use Rattle.settings.specs.Reader.{fieldDiffers, entryDiffers, differingEntry}
 use Rattle.settings.proofs.reader.differing_entry.Statement.{statement}
@@ -54,7 +54,7 @@ differing-entry-spec =
     let same : fieldDiffers form1 (a .image .now) (o .passed + 1) (l .field) ≡ false =
     rw (p, ← c .before .before .number16-at .ensures, ← c .before .table-number .ensures, eq-eqb _ _ (c .if2 .left)) in
     let n : 4 - l .field - 1 ≡ 4 - (l .field + 1) = omega arith in
-    (omega arith, rw (← n) (sym (some-later (fieldDiffers form1 (a .image .now) (o .passed + 1)) (l .field) (4 - l .field) (omega arith) same) ∙ l .inv .1)))
+    (omega arith, rw (← n) (sym (search-later (λ n. true) false (fieldDiffers form1 (a .image .now) (o .passed + 1)) (l .field) (4 - l .field) (omega arith) same) ∙ l .inv .1)))
     (λ c. omega arith)
     (λ c. omega arith)
     (λ c.
@@ -63,14 +63,14 @@ differing-entry-spec =
     let l = c .before .loop in
     let m : 4 - l .field ≡ 0 = omega arith in
     let same : entryDiffers form1 (a .image .now) (o .passed + 1) ≡ false =
-    sym (l .inv .1) ∙ rw m (some-of-none (fieldDiffers form1 (a .image .now) (o .passed + 1)) (l .field)) in
+    sym (l .inv .1) ∙ rw m (search-of-none (λ n. true) false (fieldDiffers form1 (a .image .now) (o .passed + 1)) (l .field)) in
     let n : 6 - o .passed - 1 ≡ 6 - (o .passed + 1) = omega arith in
-    (omega arith, rw (← n) (sym (first-later (entryDiffers form1 (a .image .now)) (o .passed + 1) (6 - o .passed) (omega arith) same) ∙ o .inv .1)))
+    (omega arith, rw (← n) (sym (search-later (λ n. n) 0 (entryDiffers form1 (a .image .now)) (o .passed + 1) (6 - o .passed) (omega arith) same) ∙ o .inv .1)))
     (λ c.
     let a = c .before .before .before .args in
     let o = c .before .search in
     let m : 6 - o .passed ≡ 0 = omega arith in
-    sym (first-of-none (entryDiffers form1 (a .image .now)) (o .passed + 1)) ∙ rw m at (o .inv .1))
+    sym (search-of-none (λ n. n) 0 (entryDiffers form1 (a .image .now)) (o .passed + 1)) ∙ rw m at (o .inv .1))
     (λ c.
     let a = c .before .before .before .before .before .before .before .before .args in
     let o = c .before .before .before .before .before .before .search in
@@ -79,5 +79,5 @@ differing-entry-spec =
     let other : fieldDiffers form1 (a .image .now) (o .passed + 1) (l .field) ≡ true =
     rw (p, ← c .before .before .number16-at .ensures, ← c .before .table-number .ensures, ne-eqb _ _ (c .if2 .taken)) in
     let differs : entryDiffers form1 (a .image .now) (o .passed + 1) ≡ true =
-    sym (l .inv .1) ∙ some-here (fieldDiffers form1 (a .image .now) (o .passed + 1)) (l .field) (4 - l .field) (omega arith) other in
-    sym (first-here (entryDiffers form1 (a .image .now)) (o .passed + 1) (6 - o .passed) (omega arith) differs) ∙ o .inv .1))
+    sym (l .inv .1) ∙ search-here (λ n. true) false (fieldDiffers form1 (a .image .now) (o .passed + 1)) (l .field) (4 - l .field) (omega arith) other in
+    sym (search-here (λ n. n) 0 (entryDiffers form1 (a .image .now)) (o .passed + 1) (6 - o .passed) (omega arith) differs) ∙ o .inv .1))
