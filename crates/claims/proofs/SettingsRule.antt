@@ -12,9 +12,9 @@ use Rattle.octets.specs.Choice.{pick}
 use Rattle.octets.specs.Search.{allAre}
 use Rattle.octets.proofs.Parts.{each-replicate}
 use Rattle.octets.proofs.Searching.{pick-both, pick-false, replicate-all-are}
-use Rattle.settings.specs.declared.Settings.{Settings}
+use Rattle.values.specs.declared.Settings.{Settings}
 use Rattle.settings.specs.Layout.{form1, imageSize}
-use Rattle.settings.specs.Values.{isAllowed, blankSettings, noSettings}
+use Rattle.values.specs.Values.{isAllowed, blankSettings, noSettings}
 use Rattle.settings.specs.Image.{imageOf}
 use Rattle.settings.specs.Answer.{ReadTold, accepted, refused, refusedAt, writeLeft}
 use Rattle.settings.specs.Reader.{settingsIn, isBlank, checksumDiffers, formUnknown, differingEntry, fillerDiffers, valueNotAllowed, readWritten, readOf}

@@ -9,25 +9,26 @@ use lib.Dec.{ltb, leb, ltb→lt}
 use lib.ListN.{length, getD, take, drop, length-append, length-replicate}
 use lib.Seq.{take-at, drop-at, take-all}
 use Rattle.octets.specs.Choice.{pick}
-use Rattle.octets.specs.Number.{numberOf, bytesOf, part, numberAt}
+use Rattle.octets.specs.Number.{numberOf, bytesOf, numberAt}
 use Rattle.octets.specs.Search.{allAre}
 use Rattle.octets.proofs.Numbers.{length-bytesOf, number-of-bytes, each-bytesOf}
-use Rattle.octets.proofs.Parts.{part-there, from-next, each-none, each-cons, each-append, each-replicate}
+use Rattle.octets.proofs.Parts.{part-there, each-none, each-cons, each-append, each-replicate}
 use Rattle.octets.proofs.Searching.{pick-both, replicate-all-are, none-found}
 use Rattle.octets.proofs.Table.{test-at}
 use Rattle.checksum.specs.Checksum.{checksumOf}
 use Rattle.checksum.proofs.Laws.{checksum-of-fits}
-use Rattle.settings.specs.declared.Shown.{Shown}
-use Rattle.settings.specs.declared.Settings.{Settings}
+use Rattle.values.specs.declared.Shown.{Shown}
+use Rattle.values.specs.declared.Settings.{Settings}
 use Rattle.settings.specs.Layout.{form1, bodiesEnd, offsetOf, sumOf, tableOf, placeOf}
 use Rattle.settings.specs.Table.{tableOf01, layout-gives-table, filler-from-126}
-use Rattle.settings.specs.Values.{isAllowed}
+use Rattle.values.specs.Values.{isAllowed}
 use Rattle.settings.specs.Image.{pairsOf, valuesOf, numbersOf, bodiesOf, fillerOf, frontOf, imageOf}
 use Rattle.settings.specs.Answer.{accepted}
-use Rattle.settings.specs.Reader.{shownIn, settingsIn, checksumDiffers, formUnknown, fieldDiffers, entryDiffers, differingEntry, fillerDiffers, valueNotAllowed, readWritten, readOf}
+use Rattle.settings.specs.Reader.{checksumDiffers, formUnknown, fieldDiffers, entryDiffers, differingEntry, fillerDiffers, valueNotAllowed, readWritten, readOf}
 use Rattle.settings.proofs.WriterLaws.{length-table, length-pairs, length-front}
 use Rattle.claims.specs.Held.{Held}
 use Rattle.claims.proofs.Pairs.{pairs-at, each-pairs}
+use Rattle.claims.proofs.Bodies.{from-126, shown-back, settings-back, unused-is-zero}
 
 -- each number of the table fits two bytes: one test over the table
 table-fits : (i : ℕ) → i < length (tableOf form1) → getD (tableOf form1) i 0 < 65536
@@ -52,8 +53,6 @@ module _ (s : Settings) (held : Held s) (allowed : isAllowed (s .shown) ≡ true
   unfolding front
   front-size = length-front s (held .password .size) (held .reset .size) (held .protection .size)
 
-  -- ---- the image from one of its parts on
-
   sum : List ℕ
   sum = bytesOf 4 (checksumOf front)
 
@@ -64,103 +63,13 @@ module _ (s : Settings) (held : Held s) (allowed : isAllowed (s .shown) ≡ true
   unfolding table
   table-size = length-pairs (tableOf form1) ∙ omega (arith, length-table form1)
 
-  values : List ℕ
-  values = valuesOf (s .shown)
-
-  ids : List ℕ
-  ids = bytesOf 4 (s .shown .«bcr_id») ++ bytesOf 4 (s .shown .«bsl_id»)
-
-  pointer : List ℕ
-  pointer = bytesOf 4 (s .shown .«version_pointer»)
-
-  values-size : length values ≡ 6
-  unfolding values bytesOf
-  values-size = refl
-
-  ids-size : length ids ≡ 8
-  unfolding ids bytesOf
-  ids-size = refl
-
-  pointer-size : length pointer ≡ 4
-  unfolding pointer
-  pointer-size = length-bytesOf 4 (s .shown .«version_pointer»)
-
-  -- what follows each place where a body begins
+  -- the bodies, and what follows them
   abbrev after-bodies : List ℕ
   after-bodies = fillerOf form1 ++ sum
 
-  abbrev after-118 : List ℕ
-  after-118 = s .protection ++ after-bodies
-
-  abbrev after-114 : List ℕ
-  after-114 = pointer ++ after-118
-
-  abbrev after-106 : List ℕ
-  after-106 = ids ++ after-114
-
-  abbrev after-100 : List ℕ
-  after-100 = values ++ after-106
-
-  abbrev after-84 : List ℕ
-  after-84 = s .«reset_password» ++ after-100
-
-  from-52 : drop 52 image ≡ s .password ++ after-84
-  unfolding image imageOf front sum table values ids pointer bodiesOf
+  from-52 : drop 52 image ≡ bodiesOf s ++ after-bodies
+  unfolding image imageOf front sum table
   from-52 = simp append-assoc (drop-at table _ 52 table-size)
-
-  from-84 : drop 84 image ≡ after-84
-  from-84 = from-next image 52 32 (s .password) after-84 from-52 (held .password .size)
-
-  from-100 : drop 100 image ≡ after-100
-  from-100 = from-next image 84 16 (s .«reset_password») after-100 from-84 (held .reset .size)
-
-  from-106 : drop 106 image ≡ after-106
-  from-106 = from-next image 100 6 values after-106 from-100 values-size
-
-  from-114 : drop 114 image ≡ after-114
-  from-114 = from-next image 106 8 ids after-114 from-106 ids-size
-
-  from-118 : drop 118 image ≡ after-118
-  from-118 = from-next image 114 4 pointer after-118 from-114 pointer-size
-
-  from-126 : drop 126 image ≡ after-bodies
-  from-126 = from-next image 118 8 (s .protection) after-bodies from-118 (held .protection .size)
-
-  -- ---- what the reader reads
-
-  readout-back : numberAt 2 2 values ≡ s .shown .readout
-  unfolding values bytesOf
-  readout-back = number-of-bytes 2 (s .shown .readout) (held .shown .readout)
-
-  bcr-back : numberAt 0 4 ids ≡ s .shown .«bcr_id»
-  unfolding ids bytesOf
-  bcr-back = number-of-bytes 4 (s .shown .«bcr_id») (held .shown .bcr)
-
-  bsl-back : numberAt 4 4 ids ≡ s .shown .«bsl_id»
-  unfolding ids bytesOf
-  bsl-back = number-of-bytes 4 (s .shown .«bsl_id») (held .shown .bsl)
-
-  pointer-back : numberAt 0 4 pointer ≡ s .shown .«version_pointer»
-  unfolding pointer bytesOf
-  pointer-back = number-of-bytes 4 (s .shown .«version_pointer») (held .shown .pointer)
-
-  values-there : part 100 6 image ≡ values
-  values-there = part-there image 100 6 values after-106 from-100 values-size
-
-  shown-back : shownIn form1 image ≡ s .shown
-  unfolding shownIn offsetOf sumOf values bytesOf
-  shown-back =
-      rw (part-there image 106 8 ids after-114 from-106 ids-size, part-there image 114 4 pointer after-118 from-114 pointer-size, values-there, bcr-back, bsl-back, pointer-back, readout-back)
-
-  settings-back : settingsIn form1 image ≡ s
-  unfolding settingsIn offsetOf sumOf
-  settings-back =
-      rw (
-        shown-back,
-        part-there image 118 8 (s .protection) after-bodies from-118 (held .protection .size),
-        part-there image 52 32 (s .password) after-84 from-52 (held .password .size),
-        part-there image 84 16 (s .«reset_password») after-100 from-84 (held .reset .size),
-      )
 
   -- ---- what the reader looks for
 
@@ -237,17 +146,18 @@ module _ (s : Settings) (held : Held s) (allowed : isAllowed (s .shown) ≡ true
   filler-same : fillerDiffers form1 image ≡ false
   unfolding fillerDiffers
   filler-same =
-      rw (filler-from-126, part-there image 126 894 (fillerOf form1) sum from-126 filler-size, filler-from-126, replicate-all-are 255 894)
+      rw (filler-from-126, part-there image 126 894 (fillerOf form1) sum (from-126 s held image after-bodies from-52) filler-size, filler-from-126, replicate-all-are 255 894)
 
   values-allowed : valueNotAllowed form1 image ≡ false
-  unfolding valueNotAllowed offsetOf sumOf values bytesOf pick
-  values-allowed = rw (shown-back, allowed, values-there)
+  unfolding valueNotAllowed offsetOf sumOf pick
+  values-allowed =
+      rw (shown-back s held image after-bodies from-52, allowed, unused-is-zero s held image after-bodies from-52)
 
   -- the reader accepts the image, and reads the settings
   reads-back : readOf form1 image ≡ accepted s
   unfolding readOf readWritten pick
   reads-back =
-      rw (eq-eqb (length image) 1024 image-size, first-byte, checksum-same, form-known, no-entry-differs, filler-same, values-allowed, settings-back)
+      rw (eq-eqb (length image) 1024 image-size, first-byte, checksum-same, form-known, no-entry-differs, filler-same, values-allowed, settings-back s held image after-bodies from-52)
 
   pub image-reads : readOf form1 (imageOf form1 s) ≡ accepted s
   unfolding image

@@ -3,8 +3,10 @@ use Prim.Native.Nat.{ℕ, _^_, _<_}
 use mathlib.Core.Path.{_≡_}
 use mathlib.Core.List.{List}
 use lib.ListN.{length, getD}
-use Rattle.settings.specs.declared.Shown.{Shown}
-use Rattle.settings.specs.declared.Settings.{Settings}
+use Rattle.values.specs.declared.Shown.{Shown}
+use Rattle.values.specs.declared.Settings.{Settings}
+use Rattle.loader.specs.declared.Session.{Session}
+use Rattle.rig.specs.Records.{sleepOf}
 
 -- bytes: so many numbers below 256
 pub record Bytes (count : ℕ) (bytes : List ℕ) : Type 0 where
@@ -22,3 +24,10 @@ pub record Held (settings : Settings) : Type 0 where
   pub protection : Bytes 8 (settings .protection)
   pub password : Bytes 32 (settings .password)
   pub reset : Bytes 16 (settings .«reset_password»)
+
+-- a session record; its sleep is there in the command phase alone
+pub record HeldSession (session : Session) : Type 0 where
+  pub sleep : sleepOf (session .standing .phase) < 256 ^ 4
+  pub idle : session .standing .idle < 256 ^ 4
+  pub main : session .«main_size» < 256 ^ 4
+  pub settings : Held (session .settings)

@@ -1,3 +1,9 @@
 -- What is claimed of the definitions of the crates below, in words that a theorem can cite.
 -- Held: which values a struct of the code can hold.
 pub mod Held
+-- MadeScript: a script made of entries, and the entries of a script.
+pub mod MadeScript
+-- TwoBoards: demand 3, sentence by sentence.
+pub mod TwoBoards
+-- Trials: boards and packets on which it is tried.
+pub mod Trials

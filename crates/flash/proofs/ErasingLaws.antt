@@ -2,18 +2,20 @@
 use mathlib.Core.Path.{_≡_, sym, ap, _∙_}
 use mathlib.Core.Bool.{true, false, true≢false}
 use mathlib.Core.List.{List}
-use Prim.Native.Nat.{ℕ, _+_, _-_, _*_, _/_, _≤_, _<_, min}
+use Prim.Native.Nat.{ℕ, _+_, _-_, _*_, _/_, _%_, _≤_, _<_, min}
 use native.Mathlib.Nat.{div-lt-iff-lt-mul, le-div-iff-mul-le, div-le-self, div-mul-le-self}
 use native.Mathlib.Omega.{arith}
 use lib.Arith.{digits-div}
 use lib.ListN.{length, getD, replicate}
 use borrow.Rule.Slice.PartMut.{putMid, midOf}
 use Rattle.octets.specs.Choice.{pick}
-use Rattle.octets.proofs.Searching.{pick-true, pick-false}
-use Rattle.flash.specs.Protection.{isProtected, changed}
+use Rattle.octets.specs.Number.{part}
+use Rattle.octets.proofs.Parts.{length-part}
+use Rattle.octets.proofs.Searching.{pick-true, pick-false, by-test}
+use Rattle.flash.specs.Protection.{isProtected, mayChange, changed}
 use Rattle.flash.specs.Erasing.{eraseOf, eraseAllOf}
-use Rattle.flash.proofs.PlaceLaws.{by-same-rule, by-one-value, in-run, before-run, after-run, by-run}
-use Rattle.flash.proofs.ProtectionLaws.{open-place, protected-place, changed-keeps-length, changed-at, changed-keeps, changed-alike, changed-nothing, changed-twice, changed-part, protected-unchanged, empty-sectors-unchanged}
+use Rattle.flash.proofs.PlaceLaws.{by-same-rule, by-keeping-rule, by-one-value, part-by-place, in-run, before-run, after-run, by-run}
+use Rattle.flash.proofs.ProtectionLaws.{open-place, protected-place, one-sector, changed-keeps-length, changed-at, changed-keeps, changed-alike, changed-nothing, changed-twice, changed-part, protected-unchanged, empty-sectors-unchanged}
 
 -- ---- what an erase leaves, byte by byte
 
@@ -78,6 +80,36 @@ module _ (sectorSize : ℕ) (protection memory : List ℕ) where
       → eraseAllOf sectorSize protection memory ≡ memory
   unfolding eraseAllOf
   erase-all-of-protected guarded = protected-unchanged sectorSize protection _ memory guarded
+
+  -- the byte at a place, whether it is protected or not
+  pub erase-all-at : (place : ℕ) → place < length memory
+      → getD (eraseAllOf sectorSize protection memory) place 0 ≡ pick (mayChange sectorSize protection place) 0xFF (getD memory place 0)
+  unfolding eraseAllOf
+  erase-all-at place there = changed-at sectorSize protection _ memory place there
+
+  -- what was erased is not changed by another erase
+  pub erase-all-twice : eraseAllOf sectorSize protection (eraseAllOf sectorSize protection memory) ≡ eraseAllOf sectorSize protection memory
+  unfolding eraseAllOf
+  erase-all-twice = changed-twice sectorSize protection _ _ memory
+
+  -- the bytes of a part that lies in one sector become 0xFF all together, or stay all together
+  module _ (at count : ℕ) (inside : at % sectorSize + count ≤ sectorSize) (there : at + count ≤ length memory) where
+    one-bit : (k : ℕ) → k < count → mayChange sectorSize protection (at + k) ≡ mayChange sectorSize protection at
+    unfolding mayChange
+    one-bit k h = rw (one-sector sectorSize at count (at + k) inside (omega arith) (omega arith))
+
+    pub erase-all-in-one-sector : part at count (eraseAllOf sectorSize protection memory)
+        ≡ pick (mayChange sectorSize protection at) (replicate count 0xFF) (part at count memory)
+    unfolding eraseAllOf changed
+    erase-all-in-one-sector =
+        let size = length-part at count memory there in
+        part-by-place _ at count memory
+        ∙ by-test (mayChange sectorSize protection at)
+        (λ y. by-same-rule _ _ (part at count memory) (λ k x h. pick-true 0xFF x (one-bit k (omega arith) ∙ y))
+        ∙ sym (by-one-value 0xFF (part at count memory))
+        ∙ ap (λ (n : ℕ). replicate n 0xFF) size
+        ∙ sym (pick-true _ _ y))
+        (λ n. by-keeping-rule _ (part at count memory) (λ k x h. pick-false 0xFF x (one-bit k (omega arith) ∙ n)) ∙ sym (pick-false _ _ n))
 
 -- ---- runs of sectors
 

@@ -11,6 +11,7 @@ use lib.ListN.{length, getD, set, take, drop, replicate}
 use borrow.Author.Tests.{leb-true, leb-false, ltb-true, ltb-false, le-leb, lt-leb, lt-ltb, le-ltb}
 use borrow.Rule.Slice.PartMut.{putMid, midOf}
 use Rattle.octets.specs.Choice.{pick}
+use Rattle.octets.specs.Number.{part}
 use Rattle.octets.proofs.Searching.{by-test}
 use Rattle.flash.specs.Places.{byPlace, isBetween}
 
@@ -48,6 +49,23 @@ by-two-rules f g (x ∷ xs) = ap (λ (ys : List ℕ). g 0 (f 0 x) ∷ ys) (by-tw
 pub by-one-value : (value : ℕ) (xs : List ℕ) → replicate (length xs) value ≡ byPlace (λ k x. value) xs
 by-one-value value [] = refl
 by-one-value value (x ∷ xs) = ap (λ (ys : List ℕ). value ∷ ys) (by-one-value value xs)
+
+-- ---- a part of what was changed
+
+take-by-place : (rule : ℕ → ℕ → ℕ) (count : ℕ) (xs : List ℕ) → take count (byPlace rule xs) ≡ byPlace rule (take count xs)
+take-by-place rule zero xs = refl
+take-by-place rule (suc count) [] = refl
+take-by-place rule (suc count) (x ∷ xs) = ap (λ (ys : List ℕ). rule 0 x ∷ ys) (take-by-place (λ k. rule (suc k)) count xs)
+
+drop-by-place : (rule : ℕ → ℕ → ℕ) (at : ℕ) (xs : List ℕ) → drop at (byPlace rule xs) ≡ byPlace (λ k. rule (at + k)) (drop at xs)
+drop-by-place rule zero xs = by-same-rule _ _ xs (λ k x h. ap (λ (n : ℕ). rule n x) (sym (zero-add k)))
+drop-by-place rule (suc at) [] = refl
+drop-by-place rule (suc at) (x ∷ xs) =
+    drop-by-place (λ k. rule (suc k)) at xs ∙ by-same-rule _ _ (drop at xs) (λ k y h. ap (λ (n : ℕ). rule n y) (sym (suc-add at k)))
+
+-- it is the part as it was, changed by the same rule
+pub part-by-place : (rule : ℕ → ℕ → ℕ) (at count : ℕ) (xs : List ℕ) → part at count (byPlace rule xs) ≡ byPlace (λ k. rule (at + k)) (part at count xs)
+part-by-place rule at count xs = ap (take count) (drop-by-place rule at xs) ∙ take-by-place (λ k. rule (at + k)) count (drop at xs)
 
 -- ---- a part that was lent and comes back changed by a rule of its own
 

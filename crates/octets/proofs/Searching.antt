@@ -1,6 +1,6 @@
 -- A test at every byte, and the first number that passes a test, one step at a time and all together.
 use mathlib.Core.Path.{_≡_, refl, sym, ap, _∙_}
-use mathlib.Core.Bool.{Bool, true, false, true≢false, false≢true}
+use mathlib.Core.Bool.{Bool, true, false, false≢true}
 use mathlib.Core.List.{List, [], _∷_}
 use Prim.Native.Nat.{ℕ, zero, suc, _+_, _-_, _≤_, _<_}
 use mathlib.Core.Logic.{⊎-elim}
@@ -27,6 +27,13 @@ module _ {A : Type 0} where
 pub by-test : {C : Type 0} (test : Bool) → (test ≡ true → C) → (test ≡ false → C) → C
 by-test true y n = y refl
 by-test false y n = n refl
+
+-- what holds of both values holds of the one that is picked
+pub by-pick : {A : Type 0} (P : A → Type 0) (test : Bool) (first other : A)
+    → (test ≡ true → P first) → (test ≡ false → P other) → P (pick test first other)
+unfolding pick
+by-pick P true first other y n = y refl
+by-pick P false first other y n = n refl
 
 -- both tests of a pair that must both hold
 pub pick-both : (one two : Bool) → pick one two false ≡ true → (one ≡ true) × (two ≡ true)
@@ -100,3 +107,11 @@ module _ {A : Type 0} (found : ℕ → A) (none : A) (passes : ℕ → Bool) whe
       (λ n. ⊎-elim (λ q. ap passes (sym q) ∙ n)
       (λ w. none-passes (suc from) count (λ m b. differs m (omega arith)) (sym (pick-false (found from) (searchFrom found none passes (suc from) count) n) ∙ e) k w (omega arith))
       (eq-or-lt-of-le l))
+
+  -- what holds of all that can be found, and of what stands for none, holds of what a search gives
+  pub by-search : (P : A → Type 0) (from count : ℕ) → P none → ((k : ℕ) → from ≤ k → k < from + count → P (found k)) → P (searchFrom found none passes from count)
+  unfolding searchFrom
+  by-search P from zero n each = n
+  by-search P from (suc count) n each =
+      by-pick P (passes from) (found from) (searchFrom found none passes (suc from) count) (λ y. each from (omega arith) (omega arith))
+      (λ o. by-search P (suc from) count n (λ k l u. each k (omega arith) (omega arith)))

@@ -10,8 +10,8 @@ use Rattle.octets.specs.Number.{bytesOf}
 use Rattle.octets.proofs.Numbers.{length-bytesOf}
 use Rattle.stores.proofs.Storing.{sets-join, stored-front, stored-whole}
 use Rattle.checksum.specs.Checksum.{checksumOf}
-use Rattle.settings.specs.declared.Shown.{Shown}
-use Rattle.settings.specs.declared.Settings.{Settings}
+use Rattle.values.specs.declared.Shown.{Shown}
+use Rattle.values.specs.declared.Settings.{Settings}
 use Rattle.settings.specs.Layout.{Layout, form1, countOf, bodiesEnd, offsetOf, sumOf, entryOf, entriesFrom, tableOf}
 use Rattle.settings.specs.Table.{filler-from-126}
 use Rattle.settings.specs.Image.{pairsOf, valuesOf, numbersOf, bodiesOf, fillerOf, frontOf, sealed}

@@ -4,8 +4,8 @@ use mathlib.Core.List.{List, [], _∷_, _++_}
 use lib.ListN.{replicate}
 use Rattle.octets.specs.Number.{bytesOf}
 use Rattle.checksum.specs.Checksum.{checksumOf}
-use Rattle.settings.specs.declared.Shown.{Shown}
-use Rattle.settings.specs.declared.Settings.{Settings}
+use Rattle.values.specs.declared.Shown.{Shown}
+use Rattle.values.specs.declared.Settings.{Settings}
 use Rattle.settings.specs.Layout.{Layout, checksumAt, bodiesEnd, tableOf}
 
 -- "two bytes each"

@@ -3,8 +3,6 @@
 pub mod Layout
 -- Table: 01's table, which the layout gives.
 pub mod Table
--- Values: the values that are allowed, and the settings of a blank image.
-pub mod Values
 -- Image: the image of some settings.
 pub mod Image
 -- Answer: 01's number for each answer.
@@ -13,3 +11,5 @@ pub mod Answer
 pub mod Reader
 -- Writer: what is written, and where.
 pub mod Writer
+-- Fields: the bodies by themselves.
+pub mod Fields

@@ -8,10 +8,10 @@ use Rattle.octets.specs.Choice.{pick}
 use Rattle.octets.specs.Number.{part, numberAt}
 use Rattle.octets.specs.Search.{allAre, firstFrom, someFrom}
 use Rattle.checksum.specs.Checksum.{checksumOf}
-use Rattle.settings.specs.declared.Shown.{Shown}
-use Rattle.settings.specs.declared.Settings.{Settings}
+use Rattle.values.specs.declared.Shown.{Shown}
+use Rattle.values.specs.declared.Settings.{Settings}
 use Rattle.settings.specs.Layout.{Layout, imageSize, checksumAt, countOf, lengthOf, offsetOf, bodiesEnd, tableOf, placeOf}
-use Rattle.settings.specs.Values.{isAllowed, blankSettings}
+use Rattle.values.specs.Values.{isAllowed, blankSettings}
 use Rattle.settings.specs.Answer.{ReadTold, accepted, refused, refusedAt}
 
 -- the body of an entry

@@ -1,10 +1,13 @@
 // The settings image: what a board keeps of its owner's choices, read and written by one layout.
+mod fields;
 mod places;
 mod reader;
-mod values;
 mod writer;
 
+pub use fields::put_fields;
+pub use fields::read_fields;
 pub use reader::read;
+use values::Settings;
 pub use writer::write;
 
 // The size of an image, and where its checksum stands: at the end of what it is the checksum of.
@@ -12,24 +15,8 @@ pub const IMAGE_SIZE: usize = 1024;
 
 pub const CHECKSUM_AT: usize = 1020;
 
-// What may be shown of the settings: raw numbers, as they stand in bodies 3, 4 and 5.
-pub struct Shown {
-    pub reset_mode: u8,
-    pub alert: u8,
-    pub readout: u16,
-    pub settings_protected: u8,
-    pub bcr_id: u32,
-    pub bsl_id: u32,
-    pub version_pointer: u32,
-}
-
-// The settings. The two passwords stand apart from all that may be shown.
-pub struct Settings {
-    pub shown: Shown,
-    pub protection: [u8; 8],
-    pub password: [u8; 32],
-    pub reset_password: [u8; 16],
-}
+// How many bytes the bodies have.
+pub const FIELDS_SIZE: usize = 74;
 
 // What the reader answers. An entry is told by its number, counted from 1.
 pub enum ReadAnswer {

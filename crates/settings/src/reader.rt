@@ -9,10 +9,9 @@ use crate::CHECKSUM_AT;
 use crate::IMAGE_SIZE;
 use crate::ReadAnswer;
 use crate::Reading;
-use crate::Settings;
-use crate::Shown;
 use crate::places;
-use crate::values;
+use values::Settings;
+use values::Shown;
 
 // The body of an entry.
 fn body_in(entry: usize, image: &[u8]) -> &[u8]
@@ -71,8 +70,8 @@ fn protection_of(bytes: &[u8]) -> [u8; 8]
 }
 
 // What all the bodies say.
-fn settings_in(image: &[u8]) -> Settings
-    requires { ⌜ length (now image) ≡ 1024 ⌝ }
+pub(crate) fn settings_in(image: &[u8]) -> Settings
+    requires { ⌜ 126 ≤ length (now image) ⌝ }
     ensures { λ r. ⌜ r ≡ settingsIn form1 (now (image .entry)) ⌝ }
 {
     let shown = shown_in(image);

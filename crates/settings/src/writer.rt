@@ -11,11 +11,10 @@ ghost use Rattle.settings.specs.Answer.{writeNumber, writeLeft};
 ghost use Rattle.settings.specs.Writer.{writeOf};
 use crate::CHECKSUM_AT;
 use crate::IMAGE_SIZE;
-use crate::Settings;
-use crate::Shown;
 use crate::WriteAnswer;
 use crate::places;
-use crate::values;
+use values::Settings;
+use values::Shown;
 
 fn put_table(image: &mut [u8])
     ensures { λ _. ⌜ now (image .exit) ≡ sets (now (image .entry)) 0 (pairsOf (tableOf form1)) ⌝ }
@@ -69,7 +68,7 @@ fn put_shown(image: &mut [u8], shown: Shown)
     put_numbers(image, shown);
 }
 
-fn put_bodies(image: &mut [u8], settings: Settings)
+pub(crate) fn put_bodies(image: &mut [u8], settings: Settings)
     ensures { λ _. ⌜ now (image .exit) ≡ sets (now (image .entry)) (offsetOf form1 1) (bodiesOf settings) ⌝ }
 {
     put_passwords(image, &settings.password, &settings.reset_password);

@@ -1,8 +1,8 @@
 // What settings and images hold, in the order of document 01.
 use crate::text;
 use settings::CHECKSUM_AT;
-use settings::Settings;
-use settings::Shown;
+use values::Settings;
+use values::Shown;
 
 fn show_bytes(names: &[u8], row: u8, bytes: &[u8]) {
     text::say_name(names, row);

@@ -3,7 +3,7 @@ ghost use Prim.Native.Nat.{_<_};
 use crate::answers;
 use crate::text;
 use settings::CHECKSUM_AT;
-use settings::Settings;
+use values::Settings;
 
 // What every byte of an area is before the writer gets it.
 const LENT: u8 = 0x5A;

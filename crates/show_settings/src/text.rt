@@ -1,6 +1,9 @@
 // Plain text on standard output. A line begins with the end of the line before it; what is told after its name begins with a space.
 use libc::STDOUT_FILENO;
 
+// So many bytes are shown: a password has no more.
+const MOST_SHOWN: usize = 32;
+
 pub(crate) fn say(text: &[u8]) {
     io::write_all(STDOUT_FILENO, text);
 }
@@ -15,20 +18,8 @@ pub(crate) fn say_number(number: u64) {
     io::print_decimal(STDOUT_FILENO, number);
 }
 
-// A byte as two hexadecimal digits.
-fn say_byte(byte: u8) {
-    let digits = b"0123456789ABCDEF";
-    say(
-        &[
-            b' ',
-            digits[(byte / 16) as usize],
-            digits[(byte % 16) as usize],
-        ],
-    );
-}
-
 pub(crate) fn say_bytes(bytes: &[u8]) {
-    for i in 0..bytes.len() {
-        say_byte(bytes[i]);
-    }
+    let mut text = [0u8; 3 * MOST_SHOWN];
+    hex::put_hex(&mut text, 0, bytes);
+    say(octets::part_of(&text, 0, 3 * octets::least(bytes.len(), MOST_SHOWN)));
 }

@@ -3,3 +3,5 @@
 pub mod PhaseLaws
 -- WaitLaws: what a wait keeps, and when a packet is heard.
 pub mod WaitLaws
+-- RateLaws: which ids have no rate.
+pub mod RateLaws

@@ -6,7 +6,7 @@ use native.Mathlib.Omega.{arith}
 use borrow.Author.Tests.{eqb-true, leb-true, leb-false, le-leb, ltb-true, le-ltb}
 use lib.Dec.{ltb}
 use Rattle.octets.specs.Choice.{pick}
-use Rattle.octets.proofs.Searching.{pick-false}
+use Rattle.octets.proofs.Searching.{pick-false, by-pick}
 use Rattle.standing.specs.declared.Phase.{Phase}
 use Rattle.standing.specs.declared.Phase.the-variants.{Detect, Command, Standby, Ended, Disabled}
 use Rattle.standing.specs.declared.Standing.{Standing}
@@ -14,13 +14,6 @@ use Rattle.standing.specs.declared.Passed.{Passed}
 use Rattle.standing.specs.Phases.{mostIdle, mostSleep, isUnlocked, isValidPhase, isValid}
 use Rattle.standing.specs.Waits.{movedTo, heard, dropped, idleLimit, isIdleTooLong, detectIdles, commandIdles, passTimeIn, passTime}
 use Rattle.standing.proofs.PhaseLaws.{valid-by-parts, parts-make-valid}
-
--- what holds of both values holds of the one that is picked
-pub by-pick : {A : Type 0} (P : A → Type 0) (test : Bool) (first other : A)
-    → (test ≡ true → P first) → (test ≡ false → P other) → P (pick test first other)
-unfolding pick
-by-pick P true first other y n = y refl
-by-pick P false first other y n = n refl
 
 -- below the limit the sum of idle time is small
 pub idle-below-limit : (standing : Standing) (rest : ℕ) → isIdleTooLong standing rest ≡ false → standing .idle + rest ≤ mostIdle

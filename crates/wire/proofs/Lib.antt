@@ -7,5 +7,3 @@ pub mod CodeLaws
 pub mod CommandLaws
 -- PacketLaws: what an acknowledged packet holds.
 pub mod PacketLaws
--- ReplyLaws: the sizes of replies, and that their pieces join.
-pub mod ReplyLaws

@@ -1,17 +1,18 @@
 -- What an acknowledged packet holds, by the command that is read of it.
 use mathlib.Core.Path.{_≡_, ap, subst, sym, _∙_}
 use mathlib.Core.Bool.{Bool, true}
-use mathlib.Core.List.{List}
-use Prim.Native.Nat.{ℕ, _≤_}
+use mathlib.Core.List.{List, _∷_}
+use Prim.Native.Nat.{ℕ, _≤_, _<_}
 use native.Mathlib.Omega.{arith}
-use lib.ListN.{length}
+use lib.ListN.{length, take, drop}
+use lib.Seq.{drop-cons}
 use Rattle.octets.specs.Choice.{pick}
 use Rattle.octets.proofs.Parts.{length-part}
 use Rattle.wire.specs.declared.Guarded.the-variants as guarded
 use Rattle.wire.specs.declared.Command.{Command}
 use Rattle.wire.specs.declared.Command.the-variants as command
-use Rattle.wire.specs.Codes.{acknowledged}
-use Rattle.wire.specs.Packet.{passwordIn, resetPasswordIn, dataIn}
+use Rattle.wire.specs.Codes.{acknowledged, unlock}
+use Rattle.wire.specs.Packet.{coreIn, passwordIn, resetPasswordIn, dataIn}
 use Rattle.wire.specs.Acknowledgement.{isRate, acknowledgement}
 use Rattle.wire.specs.Commands.{commandOf}
 use Rattle.wire.proofs.AcknowledgementLaws.{acknowledged-is-framed, rate-ids}
@@ -33,6 +34,16 @@ module _ (packet : List ℕ) (fine : acknowledgement packet ≡ acknowledged) wh
       let s = read-as command.Unlock e in
       let f = acknowledged-is-framed packet fine in
       length-part 4 32 packet (omega arith)
+
+  -- and with the command byte before it, it is the whole core
+  pub unlock-is-password : commandOf packet ≡ command.Unlock → coreIn packet ≡ unlock ∷ passwordIn packet
+  unlock-is-password e =
+      let s = read-as command.Unlock e in
+      let f = acknowledged-is-framed packet fine in
+      let there : 3 < length packet = omega arith in
+      ap (λ (count : ℕ). take count (drop 3 packet)) (s .1)
+      ∙ ap (take 33) (drop-cons packet 3 0 there)
+      ∙ ap (λ (code : ℕ). code ∷ passwordIn packet) (s .0)
 
   pub reset-has-password : commandOf packet ≡ command.Guarded (guarded.FactoryReset true) → length (resetPasswordIn packet) ≡ 16
   unfolding pick

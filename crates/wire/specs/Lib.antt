@@ -7,7 +7,3 @@ pub mod Packet
 pub mod Acknowledgement
 -- Commands: what a packet asks for.
 pub mod Commands
--- Replies: what is sent back.
-pub mod Replies
--- Listing: the packets and replies that 01 prints, and the one claim over them.
-pub mod Listing

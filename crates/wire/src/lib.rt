@@ -1,15 +1,13 @@
-// What both ends of the line share: codes by name, the framing of packets, commands and replies.
+// What both ends of the line share: codes by name, the framing of packets, commands.
 mod acknowledgement;
 pub mod codes;
 mod commands;
-mod replies;
 
 pub use acknowledgement::acknowledge;
 pub use acknowledgement::is_rate;
 pub use commands::is_known;
 pub use commands::is_silent;
 pub use commands::read_command;
-pub use replies::write_reply;
 
 // A packet has seven bytes beside its core: a header, the core's length L, and the core's checksum at its end.
 pub const PACKET_FRAME: usize = 7;
@@ -64,18 +62,4 @@ pub enum Command {
     Rate(u8),
     WrongLength { silent: bool },
     Unknown,
-}
-
-// What is sent back; the bytes of Read back stand beside it.
-pub enum Reply {
-    Silence,
-    Acknowledged(u8),
-    Message(u8),
-    Info {
-        version: u32,
-        bcr_id: u32,
-        bsl_id: u32,
-    },
-    Bytes,
-    Sum(u32),
 }

@@ -1,15 +1,15 @@
 -- `standing::rates::rate_of` meets its contract: the table is tested entry by entry, and past it no id has a rate.
-use mathlib.Core.Path.{_≡_}
+use mathlib.Core.Path.{sym}
 use mathlib.Core.List.{List, [], _∷_}
-use Prim.Native.Nat.{ℕ, _≤_, _<_}
+use Prim.Native.Nat.{ℕ}
 use native.Mathlib.Omega.{arith}
 use borrow.Author.Needs.{needs}
-use borrow.Author.Tests.{le-ltb, lt-leb}
 use lib.Dec.{T, eqb}
 use Rattle.octets.specs.Choice.{pick}
 use Rattle.octets.proofs.Table.{passes, equal-at}
 use Rattle.wire.specs.Acknowledgement.{isRate}
 use Rattle.standing.specs.Rates.{rateOf}
+use Rattle.standing.proofs.RateLaws.{no-rate}
 use Rattle.standing.proofs.rates.rate_of.Statement.{statement}
 use Rattle.standing.proofs.rates.rate_of.Tie as tie
 
@@ -20,17 +20,11 @@ table-is-right : T (passes (λ id entry. eqb entry (rateOf id)) 0 table)
 unfolding isRate rateOf pick
 table-is-right = tt
 
-no-rate : (id : ℕ) → 9 < id → 0 ≡ rateOf id
-unfolding isRate rateOf pick
-no-rate id h =
-    let far : 1 ≤ id = omega arith in
-    rw (le-ltb id 1 far, lt-leb id 9 h)
-
 pub rate-of-spec : {M : Type 1} → statement M
 rate-of-spec =
     tie.close
     (tie.spec
-    (λ c. no-rate (c .before .args .id) (c .if1 .taken))
+    (λ c. sym (no-rate (c .before .args .id) (c .if1 .taken)))
     (λ c. search needs)
     (λ c. search needs)
     (λ c. equal-at rateOf table table-is-right (c .before .args .id) (omega arith)))

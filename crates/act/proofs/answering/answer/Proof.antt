@@ -1,0 +1,16 @@
+-- `act::answering::answer` meets its contract: what is left of the reply, with the bytes asked for.
+use Rattle.act.specs.Answering.{answerOf}
+use borrow.Author.Needs.{needs}
+use Rattle.act.proofs.answering.answer.Statement.{statement}
+use Rattle.act.proofs.answering.answer.Tie as tie
+
+pub answer-spec : {M : Type 1} → statement M
+unfolding answerOf
+answer-spec =
+    tie.close
+    (tie.spec
+    (λ c κs. search needs)
+    (λ c κs. search needs)
+    (λ c κs. search needs)
+    (λ c. search needs)
+    (λ c. rw (c .before .before .write-reply .ensures, c .before .before .before .before .before .hush .ensures, c .before .before .before .before .bytes-asked .ensures)))

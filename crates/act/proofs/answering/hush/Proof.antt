@@ -1,0 +1,17 @@
+-- `act::answering::hush` meets its contract: by the command that the packet has.
+use Rattle.octets.specs.Choice.{pick}
+use Rattle.act.specs.Answering.{hushed}
+use borrow.Author.Needs.{needs}
+use Rattle.act.proofs.answering.hush.Statement.{statement}
+use Rattle.act.proofs.answering.hush.Tie as tie
+
+pub hush-spec : {M : Type 1} → statement M
+unfolding hushed pick
+hush-spec =
+    tie.close
+    (tie.spec
+    (λ c κs. search needs)
+    (λ c κs. search needs)
+    (λ c κs. search needs)
+    (λ c. rw (← c .before .before .before .read-command .ensures, ← c .before .before .is-silent .ensures, c .before .if1 .taken, c .without-message .ensures))
+    (λ c. rw (← c .before .before .read-command .ensures, ← c .before .is-silent .ensures, c .if1 .left)))

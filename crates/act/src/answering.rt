@@ -1,0 +1,71 @@
+// What is sent of an answer.
+ghost use mathlib.Core.Path.{_≡_};
+ghost use Rattle.replies.specs.Replies.{sent};
+ghost use Rattle.act.specs.Memory.{memory};
+ghost use Rattle.act.specs.Acting.{bytesOfTask, bytesAsked};
+ghost use Rattle.act.specs.Answering.{withoutMessage, hushed, answerOf};
+use crate::memory;
+use crate::showing;
+use judge::Effect;
+use replies::Reply;
+use wire::Guarded;
+use wire::codes;
+
+// Only the 0x00 that a message would follow.
+fn without_message(reply: Reply) -> Reply
+    ensures { λ r. ⌜ r ≡ withoutMessage reply ⌝ }
+{
+    let Reply::Message(_) = reply else {
+        return reply;
+    };
+    Reply::Acknowledged(codes::ACKNOWLEDGED)
+}
+
+// A silent command gets no message.
+fn hush(packet: &[u8], reply: Reply) -> Reply
+    ensures { λ r. ⌜ r ≡ hushed (now (packet .entry)) reply ⌝ }
+{
+    if wire::is_silent(wire::read_command(packet)) {
+        return without_message(reply);
+    }
+    reply
+}
+
+// The bytes that Read back asks for; no other command asks for any.
+fn bytes_of_task<'a>(task: Guarded, main_size: u32, main: &'a [u8], image: &'a [u8]) -> &'a [u8]
+    ensures { λ r. ⌜ now r ≡ bytesOfTask «main_size» (memory (now (main .entry)) (now (image .entry))) task ⌝ }
+{
+    let Guarded::ReadBack { address, size } = task else {
+        return octets::part_of(main, 0, 0);
+    };
+    let place = memory::locate(main_size, address, size as u64);
+    let region = place.region;
+    showing::bytes_in(region, place.offset, size as usize, main, image)
+}
+
+fn bytes_asked<'a>(effect: Effect, main_size: u32, main: &'a [u8], image: &'a [u8]) -> &'a [u8]
+    ensures { λ r. ⌜ now r ≡ bytesAsked «main_size» (memory (now (main .entry)) (now (image .entry))) effect ⌝ }
+{
+    let Effect::Perform(task) = effect else {
+        return octets::part_of(main, 0, 0);
+    };
+    bytes_of_task(task, main_size, main, image)
+}
+
+// Writes what is sent of a reply to the start of an area, and answers its size. A reply for which there is no room is not written
+// at all, and the answer is 0.
+pub fn answer<'a>(
+    effect: Effect,
+    reply: Reply,
+    packet: &[u8],
+    main_size: u32,
+    main: &'a [u8],
+    image: &'a [u8],
+    area: &mut [u8],
+) -> usize
+    ensures { λ r. ⌜ sent r (now (area .exit)) ≡ answerOf effect reply (now (packet .entry)) «main_size» (memory (now (main .entry)) (now (image .entry))) (now (area .entry)) ⌝ }
+{
+    let told = hush(packet, reply);
+    let bytes = bytes_asked(effect, main_size, main, image);
+    replies::write_reply(told, bytes, area)
+}

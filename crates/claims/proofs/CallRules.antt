@@ -1,0 +1,151 @@
+-- What holds of every start and of every call, over the definitions that `start` and `call` are proved to meet. That a refused call
+-- changes nothing, and that no reply has more than 1,729 bytes, stands in the loader's own CallLaws.
+use mathlib.Core.Path.{_≡_, refl, sym, ap, _∙_}
+use mathlib.Core.Bool.{Bool, true, false, true≢false, not}
+use mathlib.Core.List.{List}
+use Prim.Native.Nat.{ℕ, _≤_}
+use native.Mathlib.Omega.{arith}
+use borrow.Author.Tests.{le-ltb, eq-eqb, eqb-true, not-false}
+use lib.Dec.{eqb}
+use lib.ListN.{length, getD}
+use Rattle.octets.specs.Choice.{pick}
+use Rattle.octets.proofs.Searching.{pick-false, pick-both, by-pick}
+use Rattle.wire.specs.Codes.{replyLimit}
+use Rattle.wire.specs.Packet.{passwordIn}
+use Rattle.standing.specs.declared.Phase.the-variants.{Command}
+use Rattle.standing.specs.Phases.{mostWrong}
+use Rattle.standing.specs.Waits.{passTime}
+use Rattle.standing.proofs.PhaseLaws.{valid-by-parts, start-is-valid}
+use Rattle.standing.proofs.WaitLaws.{long-wait-is-heard}
+use Rattle.values.specs.Values.{isAllowed, blankSettings}
+use Rattle.settings.specs.Layout.{imageSize, form1}
+use Rattle.settings.specs.Answer.{ReadTold}
+use Rattle.settings.specs.Reader.{bodyIn, shownIn, settingsIn, isBlank, checksumDiffers, formUnknown, differingEntry, fillerDiffers, valueNotAllowed, readWritten, readOf}
+use Rattle.judge.proofs.JudgeLaws.{judge-keeps-valid, wrong-count-rises}
+use Rattle.act.specs.Memory.{Memory}
+use Rattle.act.proofs.ActingLaws.{act-keeps-lengths}
+use Rattle.loader.specs.declared.Session.{Session}
+use Rattle.loader.specs.Answers.{StartTold, Left}
+use Rattle.loader.specs.Passwords.{areSame}
+use Rattle.loader.specs.Records.{isMainSize, isRecord}
+use Rattle.loader.specs.Starting.{sessionOf, startRead, startOf}
+use Rattle.loader.specs.Calling.{boardOf, judgement, serveOf, callOf}
+use Rattle.loader.proofs.CallLaws.{every-call}
+use Rattle.loader.proofs.RecordLaws.{record-by-clauses, clauses-make-record}
+
+module _ (session : Session) (before : Memory) (wait : ℕ) (packet area : List ℕ) where
+  abbrev after : Left
+  after = callOf session before wait packet area
+
+  -- a valid record, beside the images that are lent
+  abbrev isValidRecord : Type 0
+  isValidRecord = isRecord session (length (before .main)) (length (before .settings)) ≡ true
+
+  -- both images keep their lengths
+  pub call-keeps-lengths : (length (after .memory .main) ≡ length (before .main)) × (length (after .memory .settings) ≡ length (before .settings))
+  unfolding serveOf
+  call-keeps-lengths =
+      every-call session before wait packet area (λ left. (length (left .memory .main) ≡ length (before .main)) × (length (left .memory .settings) ≡ length (before .settings)))
+      (λ number. (refl, refl))
+      (act-keeps-lengths (boardOf session) before _ packet (judgement session wait packet .effect))
+
+  -- a valid record is served, where there is room for a reply
+  pub valid-is-served : isValidRecord → replyLimit ≤ length area → after ≡ serveOf session before wait packet area
+  unfolding callOf
+  valid-is-served valid room =
+      pick-false _ _ (le-ltb (length area) replyLimit room) ∙ pick-false _ _ (ap not valid)
+
+  -- the record that a call gives back is valid again: no sequence of calls leads to a refusal 10
+  pub valid-stays-valid : isValidRecord → isRecord (after .session) (length (after .memory .main)) (length (after .memory .settings)) ≡ true
+  unfolding serveOf
+  valid-stays-valid valid =
+      every-call session before wait packet area (λ left. isRecord (left .session) (length (left .memory .main)) (length (left .memory .settings)) ≡ true)
+      (λ number. valid)
+      (let v = record-by-clauses session _ _ valid in
+      let kept = act-keeps-lengths (boardOf session) before _ packet (judgement session wait packet .effect) in
+      clauses-make-record _ _ _
+      (record {
+        standing = judge-keeps-valid (session .standing) _ wait packet _ (v .standing);
+        values = v .values;
+        mainSize = v .mainSize;
+        settings = kept .1 ∙ v .settings;
+        main = kept .0 ∙ v .main;
+      }))
+
+  -- "count up by one to at most 3"
+  pub wrong-count-is-at-most-3 : isValidRecord → after .session .standing .wrong ≤ mostWrong
+  wrong-count-is-at-most-3 valid =
+      valid-by-parts _ (record-by-clauses _ _ _ (valid-stays-valid valid) .standing) .wrong
+
+  -- the wrong count falls only by a right password
+  pub wrong-count-falls-by-password : isValidRecord → areSame (session .settings .password) (passwordIn packet) ≡ false
+      → session .standing .wrong ≤ after .session .standing .wrong
+  unfolding serveOf
+  wrong-count-falls-by-password valid wrong =
+      every-call session before wait packet area (λ left. session .standing .wrong ≤ left .session .standing .wrong) (λ number. omega arith)
+      (wrong-count-rises (session .standing) (session .settings .shown .alert) wait packet _ (record-by-clauses session _ _ valid .standing) wrong)
+
+  -- 01, Phases and waits: "With waits of 2,000 or more, no packet of the command phase is ever dropped."
+  pub long-wait-drops-nothing : (unlocked : Bool) (sleep : ℕ) → isValidRecord → session .standing .phase ≡ Command unlocked sleep → 2000 ≤ wait
+      → passTime (session .standing) wait .heard ≡ true
+  long-wait-drops-nothing unlocked sleep valid phase long =
+      long-wait-is-heard (session .standing) wait unlocked sleep (record-by-clauses session _ _ valid .standing) phase long
+
+-- ---- start
+
+blank-is-allowed : isAllowed (blankSettings .shown) ≡ true
+unfolding isAllowed pick
+blank-is-allowed = refl
+
+module _ (image : List ℕ) where
+  -- what an accepted image promises
+  abbrev Promise : ReadTold → Type 0
+  Promise told = told .number ≡ 0 → (isAllowed (told .settings .shown) ≡ true) × (length image ≡ imageSize)
+
+  written-promises : length image ≡ imageSize → Promise (readWritten form1 image)
+  unfolding readWritten settingsIn valueNotAllowed
+  written-promises size =
+      by-pick Promise (checksumDiffers image) _ _ (λ y e. absurd (omega arith))
+      (λ n. by-pick Promise (formUnknown form1 image) _ _ (λ y e. absurd (omega arith))
+      (λ n. by-pick Promise (not (eqb (differingEntry form1 image) 0)) _ _ (λ y e. absurd (omega arith))
+      (λ n. by-pick Promise (fillerDiffers form1 image) _ _ (λ y e. absurd (omega arith))
+      (λ n. by-pick Promise (not (pick (isAllowed (shownIn form1 image)) (eqb (getD (bodyIn form1 3 image) 5 0) 0) false)) _ _ (λ y e. absurd (omega arith))
+      (λ n e. (pick-both _ _ (not-false _ n) .0, size))))))
+
+  accepted-is-allowed : Promise (readOf form1 image)
+  unfolding readOf
+  accepted-is-allowed =
+      by-pick Promise (not (eqb (length image) imageSize)) _ _ (λ y e. absurd (omega arith))
+      (λ n. let size = eqb-true _ _ (not-false _ n) in
+      by-pick Promise (isBlank image) _ _ (λ y e. (blank-is-allowed, size)) (λ n. written-promises size))
+
+module _ (fuse : Bool) (main settings : List ℕ) where
+  -- what holds of the session of the settings that are read holds of every session that is started
+  every-start : (P : Session → Type 0)
+      → (isMainSize (length main) ≡ true → readOf form1 settings .number ≡ 0 → P (sessionOf (length main) (readOf form1 settings .settings)))
+      → startOf fuse main settings .answer .number ≡ 0 → P (startOf fuse main settings .session)
+  unfolding startOf startRead
+  every-start P holds =
+      by-pick Promised fuse _ _ (λ y e. absurd (omega arith))
+      (λ n. by-pick Promised (not (isMainSize (length main))) _ _ (λ y e. absurd (omega arith))
+      (λ n. by-pick Promised (eqb (readOf form1 settings .number) 0) _ _
+      (λ y e. holds (not-false _ n) (eqb-true _ _ y))
+      (λ n e. absurd (true≢false (sym (eq-eqb _ _ e) ∙ n)))))
+    where
+      Promised : StartTold → Type 0
+      Promised told = told .answer .number ≡ 0 → P (told .session)
+
+  -- a session that was started is valid beside the images it was started with
+  pub started-is-valid : startOf fuse main settings .answer .number ≡ 0
+      → isRecord (startOf fuse main settings .session) (length main) (length settings) ≡ true
+  started-is-valid =
+      every-start (λ session. isRecord session (length main) (length settings) ≡ true)
+      (λ size read.
+      let allowed = accepted-is-allowed settings read in
+      clauses-make-record _ _ _
+      (record { standing = start-is-valid; values = allowed .0; mainSize = size; settings = allowed .1; main = refl }))
+
+  -- 01, Phases and waits: "Settings are taken at start"
+  pub started-session : startOf fuse main settings .answer .number ≡ 0
+      → startOf fuse main settings .session ≡ sessionOf (length main) (readOf form1 settings .settings)
+  started-session = every-start (λ session. session ≡ sessionOf (length main) (readOf form1 settings .settings)) (λ size read. refl)

@@ -1,0 +1,100 @@
+-- Boards and packets on which demand 3 is tried.
+use Prim.Native.Nat.{ℕ}
+use mathlib.Core.Path.{_≡_}
+use mathlib.Core.List.{List, [], _∷_, _++_}
+use lib.ListN.{length, replicate}
+use Rattle.octets.specs.Number.{bytesOf}
+use Rattle.checksum.specs.Checksum.{checksumOf}
+use Rattle.wire.specs.Codes.{commandHeader, replyLimit, connect, unlock}
+use Rattle.values.specs.declared.Settings.{Settings}
+use Rattle.settings.specs.Layout.{form1, imageSize}
+use Rattle.settings.specs.Image.{imageOf}
+use Rattle.judge.specs.Unlocking.{alertReset}
+use Rattle.act.specs.Memory.{memory}
+use Rattle.loader.specs.Answers.{Left}
+use Rattle.claims.specs.TwoBoards.{Images, Running, settingsOf, started, Sending, WithoutPassword, called, next}
+
+-- ---- boards
+
+abbrev pub mainSize : ℕ
+mainSize = 1024
+
+-- "An image of 1,024 bytes 0xFF is blank": its alert is 0, nothing
+unfoldable pub blankBoard : Images
+blankBoard = memory (replicate mainSize 0xFF) (replicate imageSize 0xFF)
+
+-- the settings of a blank image, but for the alert, the version pointer and the passwords, of which each is one byte all through
+abbrev pub chosen : ℕ → ℕ → ℕ → Settings
+chosen alert pointer byte = record {
+  shown = record {
+    «reset_mode» = 1;
+    alert = alert;
+    readout = 0xFFFF;
+    «settings_protected» = 0;
+    «bcr_id» = 1;
+    «bsl_id» = 1;
+    «version_pointer» = pointer;
+  };
+  protection = replicate 8 0;
+  password = replicate 32 byte;
+  «reset_password» = replicate 16 byte;
+}
+
+-- a board whose settings were written; in MAIN there are four bytes 0x55, and then one byte all through
+unfoldable pub writtenBoard : Settings → ℕ → Images
+writtenBoard settings byte = memory (replicate 4 0x55 ++ replicate 1020 byte) (imageOf form1 settings)
+
+-- the alert does nothing, and the version pointer is not good; or the alert resets, and the version is the four bytes 0x55
+abbrev pub quietBoard : ℕ → ℕ → Images
+quietBoard password main = writtenBoard (chosen 0 0xFFFFFFFF password) main
+
+abbrev pub strictBoard : ℕ → ℕ → Images
+strictBoard password main = writtenBoard (chosen alertReset 0 password) main
+
+-- both passwords and both images differ
+pub record Differ (one other : Images) : Type 0 where
+  pub password : settingsOf one .password ≡ settingsOf other .password → ⊥
+  pub resetPassword : settingsOf one .«reset_password» ≡ settingsOf other .«reset_password» → ⊥
+  pub main : one .main ≡ other .main → ⊥
+  pub settings : one .settings ≡ other .settings → ⊥
+
+-- every byte of both images is 0xFF
+abbrev pub allFF : Images → Images
+allFF board = memory (replicate (length (board .main)) 0xFF) (replicate (length (board .settings)) 0xFF)
+
+-- ---- packets
+
+-- 01, Commands: header, length, core, checksum
+abbrev pub packetOf : List ℕ → List ℕ
+packetOf core = commandHeader ∷ (bytesOf 2 (length core) ++ (core ++ bytesOf 4 (checksumOf core)))
+
+-- a packet after two seconds, when no board sleeps; both areas have the least room, and differ
+abbrev pub sends : List ℕ → Sending
+sends core = record { wait = 2000; packet = packetOf core; oneArea = replicate replyLimit 0; otherArea = replicate replyLimit 0xFF }
+
+abbrev pub connects : Sending
+connects = sends (connect ∷ [])
+
+-- an Unlock with 32 times a byte
+abbrev pub unlocks : ℕ → Sending
+unlocks byte = sends (unlock ∷ replicate 32 byte)
+
+-- ---- sessions
+
+-- three wrong passwords, where the right one does not begin with 0x33
+abbrev pub threeGuesses : List Sending
+threeGuesses = connects ∷ unlocks 0x33 ∷ unlocks 0x33 ∷ unlocks 0x33 ∷ []
+
+-- a board after some calls, with the first area of each
+abbrev pub ran : Running → List Sending → Running
+ran board [] = board
+ran board (sending ∷ sendings) = ran (next (called board sending (sending .oneArea))) sendings
+
+-- what a board that was connected leaves where the password of a blank board is sent to it
+abbrev pub toBlankPassword : Images → Left
+toBlankPassword images = called (ran (started images) (connects ∷ [])) (unlocks 0xFF) (unlocks 0xFF .oneArea)
+
+-- no packet carries a password of the two
+abbrev pub AllWithout : Images → Images → List Sending → Type 0
+AllWithout one other [] = Unit
+AllWithout one other (sending ∷ sendings) = WithoutPassword one other sending × AllWithout one other sendings

@@ -1,0 +1,3 @@
+-- Bytes as text.
+-- Hex: each byte is a space and two digits.
+pub mod Hex

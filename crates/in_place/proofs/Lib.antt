@@ -1,0 +1,2 @@
+-- RecordSteps: steps of a walk over a session record that is lent.
+pub mod RecordSteps

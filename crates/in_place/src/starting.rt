@@ -1,0 +1,45 @@
+// Starting a session, into a record that is lent.
+ghost use mathlib.Core.Path.{_≡_};
+ghost use lib.Dec.{eqb};
+ghost use Rattle.loader.specs.Answers.{startNumbered, startTold};
+ghost use Rattle.in_place.specs.Starting.{startLeft, startInPlace};
+use loader::Session;
+use loader::StartAnswer;
+use loader::Started;
+
+fn is_started(answer: StartAnswer) -> bool
+    ensures { λ r. ⌜ r ≡ eqb (startNumbered answer .number) 0 ⌝ }
+{
+    match answer {
+        StartAnswer::Started => true,
+        StartAnswer::FuseSet => false,
+        StartAnswer::MainSizeWrong => false,
+        StartAnswer::SettingsSizeWrong => false,
+        StartAnswer::ChecksumDiffers => false,
+        StartAnswer::FormUnknown => false,
+        StartAnswer::EntryDiffers(_) => false,
+        StartAnswer::FillerDiffers => false,
+        StartAnswer::ValueNotAllowed => false,
+    }
+}
+
+// The session that was started, or beside a refusal the one that was given.
+fn start_or_keep(session: Session, fuse: bool, main: &[u8], image: &[u8]) -> Started
+    ensures { λ r. ⌜ startTold r ≡ startInPlace session fuse (now (main .entry)) (now (image .entry)) ⌝ }
+{
+    let started = loader::start(fuse, main, image);
+    let answer = started.answer;
+    if is_started(answer) {
+        return started;
+    }
+    Started { answer, session }
+}
+
+// The loader's start; the record becomes the session. A refused start leaves it as it was.
+pub fn start(session: &mut Session, fuse: bool, main: &[u8], image: &[u8]) -> StartAnswer
+    ensures { λ r. ⌜ startLeft (startNumbered r) (now (session .exit)) ≡ startInPlace (now (session .entry)) fuse (now (main .entry)) (now (image .entry)) ⌝ }
+{
+    let started = start_or_keep(*session, fuse, main, image);
+    *session = started.session;
+    started.answer
+}

@@ -1,0 +1,108 @@
+// Hearing a packet: after the wait, by the phase, and by its acknowledgement.
+ghost use mathlib.Core.Path.{_≡_};
+ghost use mathlib.Core.Bool.{false};
+ghost use Rattle.standing.specs.declared.Phase.the-variants as phase;
+ghost use Rattle.standing.specs.Waits.{movedTo};
+ghost use Rattle.judge.specs.Hearing.{silently, heardInDetect, stirred, heardInCommand, judgedOf};
+use crate::Effect;
+use crate::Judged;
+use crate::judgement;
+use crate::obeying;
+use replies::Reply;
+use standing::Phase;
+use standing::Standing;
+use wire::Command;
+use wire::codes;
+
+fn silently(standing: Standing) -> Judged
+    ensures { λ r. ⌜ r ≡ silently standing ⌝ }
+{
+    Judged {
+        standing,
+        effect: Effect::Say(Reply::Silence),
+        burn: false,
+    }
+}
+
+// The command phase, locked.
+fn connected(standing: Standing) -> Standing
+    ensures { λ r. ⌜ r ≡ movedTo standing (phase.Command false 0) 0 ⌝ }
+{
+    Standing {
+        phase: Phase::Command {
+            unlocked: false,
+            sleep: 0,
+        },
+        idle: 0,
+        wrong: standing.wrong,
+        rate: standing.rate,
+    }
+}
+
+fn heard_in_detect(standing: Standing, packet: &[u8]) -> Judged
+    ensures { λ r. ⌜ r ≡ heardInDetect standing (now (packet .entry)) ⌝ }
+{
+    if wire::acknowledge(packet) != codes::ACKNOWLEDGED {
+        return silently(standing);
+    }
+    let Command::Connect = wire::read_command(packet) else {
+        return silently(standing);
+    };
+    judgement::acknowledges(connected(standing), codes::ACKNOWLEDGED)
+}
+
+// A command byte that is one of the twelve ends idle time.
+fn stirred(standing: Standing, command: Command) -> Standing
+    ensures { λ r. ⌜ r ≡ stirred standing command ⌝ }
+{
+    if wire::is_known(command) {
+        let phase = standing.phase;
+        return Standing {
+            phase,
+            idle: 0,
+            wrong: standing.wrong,
+            rate: standing.rate,
+        };
+    }
+    standing
+}
+
+fn heard_in_command(
+    standing: Standing,
+    alert: u8,
+    unlocked: bool,
+    packet: &[u8],
+    right: bool,
+) -> Judged
+    ensures { λ r. ⌜ r ≡ heardInCommand standing alert unlocked (now (packet .entry)) right ⌝ }
+{
+    let code = wire::acknowledge(packet);
+    if code != codes::ACKNOWLEDGED {
+        return judgement::acknowledges(standing, code);
+    }
+    let command = wire::read_command(packet);
+    obeying::obeyed(stirred(standing, command), alert, unlocked, right, command)
+}
+
+// What a session does with a packet that came after a wait of so many milliseconds. `right` says whether the packet carries the
+// session's password, and is looked at only where the packet is an Unlock.
+pub fn judge(standing: Standing, alert: u8, wait: u32, packet: &[u8], right: bool) -> Judged
+    ensures { λ r. ⌜ r ≡ judgedOf standing alert wait (now (packet .entry)) right ⌝ }
+{
+    let passed = standing::pass_time(standing, wait);
+    let after = passed.standing;
+    if !passed.heard {
+        return silently(after);
+    }
+    if packet.len() == 0 {
+        return silently(after);
+    }
+    let phase = after.phase;
+    match phase {
+        Phase::Detect => heard_in_detect(after, packet),
+        Phase::Command { unlocked, sleep: _ } => {
+            heard_in_command(after, alert, unlocked, packet, right)
+        }
+        Phase::Standby | Phase::Ended | Phase::Disabled => silently(after),
+    }
+}

@@ -1,0 +1,80 @@
+// Writing a line: whole, or not at all.
+ghost use mathlib.Core.Path.{_≡_};
+ghost use Prim.Native.Nat.{_+_, _≤_};
+ghost use lib.Dec.{ltb};
+ghost use lib.ListN.{length};
+ghost use lib.Seq.{sets};
+ghost use Rattle.lines.specs.Writing.{replyText, textSize, lineOf, endOf, written, writtenOf};
+use crate::digits;
+use standing::Phase;
+
+// A reply as text: a dash where it has no bytes. Answers the place after it.
+fn put_reply(area: &mut [u8], at: usize, reply: &[u8]) -> usize
+    requires { ⌜ at + textSize (length (now reply)) ≤ length (now area) ⌝ }
+    ensures { λ r. ⌜ (r ≡ at + textSize (length (now (reply .entry)))) × (now (area .exit) ≡ sets (now (area .entry)) at (replyText (now (reply .entry)))) ⌝ }
+{
+    if reply.len() == 0 {
+        stores::put(area, at, b" -");
+        return at + 2;
+    }
+    hex::put_hex(area, at, reply);
+    at + 3 * reply.len()
+}
+
+// Whether an area of so many bytes has no room for a line with so many digits and so many bytes of a reply.
+fn is_too_small(size: usize, digits: usize, count: usize) -> bool
+    requires { ⌜ digits ≤ 3 ⌝ }
+    ensures { λ r. ⌜ r ≡ ltb size (digits + textSize count + 1) ⌝ }
+{
+    if count == 0 {
+        return size < digits + 3;
+    }
+    octets::room(size, digits + 1) / 3 < count
+}
+
+// Writes the line of an entry to the start of an area and answers its size: the entry's number, which begins at 1, and the reply
+// in hex, or a dash. Where there is no room for the whole line nothing is written, and the answer is 0.
+pub fn write_line(number: u8, reply: &[u8], area: &mut [u8]) -> usize
+    ensures { λ r. ⌜ written r (now (area .exit)) ≡ writtenOf (lineOf number (now (reply .entry))) (now (area .entry)) ⌝ }
+{
+    let count = digits::digits_in(number);
+    if is_too_small(area.len(), count, reply.len()) {
+        return 0;
+    }
+    digits::put_decimal(area, number);
+    let end = put_reply(area, count, reply);
+    stores::put(area, end, b"\n");
+    end + 1
+}
+
+fn write_text(text: &[u8], area: &mut [u8]) -> usize
+    ensures { λ r. ⌜ written r (now (area .exit)) ≡ writtenOf (now (text .entry)) (now (area .entry)) ⌝ }
+{
+    if area.len() < text.len() {
+        return 0;
+    }
+    stores::put(area, 0, text);
+    text.len()
+}
+
+fn write_command_end(unlocked: bool, area: &mut [u8]) -> usize
+    ensures { λ r. ⌜ written r (now (area .exit)) ≡ writtenOf (endOf (Phase.Command unlocked 0)) (now (area .entry)) ⌝ }
+{
+    if unlocked {
+        return write_text(b"end command unlocked\n", area);
+    }
+    write_text(b"end command locked\n", area)
+}
+
+// Writes the end line, which says how the session stands at last, as the line of an entry is written.
+pub fn write_end(phase: Phase, area: &mut [u8]) -> usize
+    ensures { λ r. ⌜ written r (now (area .exit)) ≡ writtenOf (endOf phase) (now (area .entry)) ⌝ }
+{
+    match phase {
+        Phase::Detect => write_text(b"end detect\n", area),
+        Phase::Command { unlocked, sleep: _ } => write_command_end(unlocked, area),
+        Phase::Standby => write_text(b"end standby\n", area),
+        Phase::Ended => write_text(b"end ended\n", area),
+        Phase::Disabled => write_text(b"end disabled\n", area),
+    }
+}

@@ -1,0 +1,32 @@
+-- What start tells beside its number.
+use Prim.Native.Nat.{ℕ, _≤_}
+use mathlib.Core.Bool.{Bool, not}
+use mathlib.Core.List.{List}
+use native.Mathlib.Omega.{arith}
+use lib.Dec.{eqb}
+use lib.ListN.{length}
+use Rattle.octets.proofs.Searching.{by-pick}
+use Rattle.settings.specs.Layout.{form1}
+use Rattle.settings.specs.Answer.{ReadTold, numbered}
+use Rattle.settings.specs.Reader.{readOf}
+use Rattle.settings.proofs.ReaderLaws.{entry-there}
+use Rattle.loader.specs.Records.{isMainSize}
+use Rattle.loader.specs.Answers.{StartTold}
+use Rattle.loader.specs.Starting.{sessionOf, startRefused, startRead, startOf}
+
+-- an entry is told by one of six numbers, or by 0
+abbrev There : StartTold → Type 0
+There told = told .answer .entry ≤ 6
+
+read-entry-there : (mainSize : ℕ) (told : ReadTold) → told .entry ≤ 6 → There (startRead mainSize told)
+unfolding startRead
+read-entry-there mainSize told h =
+    by-pick There (eqb (told .number) 0) (record { answer = numbered 0 0; session = sessionOf mainSize (told .settings) })
+    (startRefused (told .number) (told .entry)) (λ y. omega arith) (λ n. h)
+
+pub start-entry-there : (fuse : Bool) (main image : List ℕ) → There (startOf fuse main image)
+unfolding startOf
+start-entry-there fuse main image =
+    by-pick There fuse (startRefused 1 0) _ (λ y. omega arith)
+    (λ n. by-pick There (not (isMainSize (length main))) (startRefused 2 0) _ (λ y. omega arith)
+    (λ m. read-entry-there (length main) (readOf form1 image) (entry-there form1 image)))

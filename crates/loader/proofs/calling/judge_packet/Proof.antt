@@ -1,0 +1,13 @@
+-- `loader::calling::judge_packet` meets its contract: the bit, and then the judge.
+use borrow.Author.Needs.{needs}
+use Rattle.loader.proofs.calling.judge_packet.Statement.{statement}
+use Rattle.loader.proofs.calling.judge_packet.Tie as tie
+
+pub judge-packet-spec : {M : Type 1} → statement M
+judge-packet-spec =
+    tie.close
+    (tie.spec
+    (λ c κs. search needs)
+    (λ c κs. search needs)
+    (λ c κs. search needs)
+    (λ c. rw (c .judge .ensures, c .before .are-same .ensures, c .before .before .before .before .before .part-of .ensures)))

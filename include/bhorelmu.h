@@ -1,0 +1,110 @@
+#ifndef BHORELMU_H
+#define BHORELMU_H
+
+#include <stddef.h>
+#include <stdint.h>
+
+/*
+ * The device side of one boot loader session, on numbers and byte areas. docs/RECORD.md tells the same with an example.
+ *
+ * An area is a pointer and its size in bytes; all numbers in it are least significant byte first. A refused call changes
+ * no byte of any area.
+ *
+ * Duties of the caller:
+ *  - each pointer has as many bytes behind it as its size says, and none is NULL where the size is above 0;
+ *  - the areas of one call do not overlap;
+ *  - the wait of a refused call is added to the next wait, for the record has not moved;
+ *  - a reply is sent at the rate that the record had before the call, and the next one at the rate it has after it;
+ *  - where an answer says so, the board burns its fuse, and says so to every later start.
+ */
+
+#define BHORELMU_SETTINGS_SIZE 1024u
+#define BHORELMU_PACKET_LARGEST 1728u
+#define BHORELMU_REPLY_SIZE 1729u /* a reply area has at least so many bytes */
+#define BHORELMU_RECORD_SIZE 90u
+#define BHORELMU_FIELDS_SIZE 74u
+
+/* Where the parts of a record stand. */
+#define BHORELMU_RECORD_PHASE 0u
+#define BHORELMU_RECORD_LOCK 1u /* 1: unlocked */
+#define BHORELMU_RECORD_WRONG_COUNT 2u
+#define BHORELMU_RECORD_RATE_ID 3u
+#define BHORELMU_RECORD_SLEEP 4u      /* 4 bytes, milliseconds */
+#define BHORELMU_RECORD_IDLE 8u       /* 4 bytes, milliseconds */
+#define BHORELMU_RECORD_MAIN_SIZE 12u /* 4 bytes */
+#define BHORELMU_RECORD_FIELDS 16u    /* 74 bytes: the settings as they were at start */
+
+enum bhorelmu_phase {
+    BHORELMU_DETECT,
+    BHORELMU_COMMAND,
+    BHORELMU_STANDBY,
+    BHORELMU_ENDED,
+    BHORELMU_DISABLED
+};
+
+/* The numbers of refused calls; BHORELMU_DONE is no refusal. */
+enum bhorelmu_refusal_number {
+    BHORELMU_DONE = 0,
+    BHORELMU_FUSE_SET = 1,
+    BHORELMU_MAIN_SIZE_WRONG = 2,
+    BHORELMU_SETTINGS_SIZE_WRONG = 3,
+    BHORELMU_CHECKSUM_DIFFERS = 4,
+    BHORELMU_FORM_UNKNOWN = 5,
+    BHORELMU_ENTRY_DIFFERS = 6,
+    BHORELMU_FILLER_DIFFERS = 7,
+    BHORELMU_VALUE_NOT_ALLOWED = 8,
+    BHORELMU_REPLY_AREA_TOO_SMALL = 9,
+    BHORELMU_RECORD_NOT_VALID = 10
+};
+
+/* Begins a session; any fuse but 0 is set. Refusals 1 to 8, then 10 for a record area of another size. */
+uint64_t bhorelmu_start(uint32_t fuse, const uint8_t *main_flash, size_t main_size, const uint8_t *settings,
+                        size_t settings_size, uint8_t *record, size_t record_size);
+
+/*
+ * Lets `wait` milliseconds pass, then takes one packet, perhaps empty, and updates the record. Refusals 9, then 10 for
+ * an area that is no record's. Bytes past the reply stay as lent.
+ */
+uint64_t bhorelmu_call(uint8_t *record, size_t record_size, uint8_t *main_flash, size_t main_size, uint8_t *settings,
+                       size_t settings_size, uint32_t wait, const uint8_t *packet, size_t packet_size, uint8_t *reply,
+                       size_t reply_size);
+
+/*
+ * Takes the 74 bytes of fields out of a settings image (its bytes 52 to 125); a blank image gives the blank settings'.
+ * Refusals 3 to 8, then 10 for a fields area of another size.
+ */
+uint64_t bhorelmu_settings_read(const uint8_t *image, size_t image_size, uint8_t *fields, size_t fields_size);
+
+/* Makes a settings image around 74 bytes of fields. Refusals 3, then 10 for a fields area of another size, then 8. */
+uint64_t bhorelmu_settings_write(const uint8_t *fields, size_t fields_size, uint8_t *image, size_t image_size);
+
+/* Bits a second of rate ids 1 to 9; 0 for any other id. */
+uint32_t bhorelmu_rate(uint32_t id);
+
+/* ---- the parts of an answer ---- */
+
+/* The number of the refusal, 0 where the call was not refused. */
+static inline unsigned bhorelmu_refusal(uint64_t answer)
+{
+    return (unsigned)(answer >> 56);
+}
+
+/* 1 where the board is to burn its fuse now. */
+static inline int bhorelmu_burns(uint64_t answer)
+{
+    return (int)(answer >> 32 & 1u);
+}
+
+/* How many bytes of the reply area are the reply (a session call). */
+static inline uint32_t bhorelmu_length(uint64_t answer)
+{
+    return (uint32_t)answer;
+}
+
+/* The entry of the settings image that goes with refusal 6 (start and the settings reader). */
+static inline uint32_t bhorelmu_entry(uint64_t answer)
+{
+    return (uint32_t)answer;
+}
+
+#endif

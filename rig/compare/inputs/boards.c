@@ -1,0 +1,235 @@
+#include "boards.h"
+
+#include "wire.h"
+
+#include <string.h>
+
+uint32_t choose_main_size(struct dice *dice)
+{
+    static const uint32_t common[] = {1024, 2048, 4096, 4096, 8192, 65536};
+    return chance(dice, 70) ? ONE_OF(dice, common) : SECTOR * (1 + below(dice, 64));
+}
+
+uint32_t choose_odd_main_size(struct dice *dice)
+{
+    static const uint32_t odd[] = {0, 1, 512, 1023, 1025, 1536, 4095, 4097, 65535, 65537, 66560, 67 * 1024};
+    return chance(dice, 80) ? ONE_OF(dice, odd) : choose_main_size(dice);
+}
+
+/* ---- Settings ---- */
+
+static void choose_secret(struct dice *dice, uint8_t *bytes, size_t count)
+{
+    memset(bytes, chance(dice, 30) ? 0x00 : 0xFF, count);
+    if (chance(dice, 75))
+        noise(dice, bytes, count);
+}
+
+static uint32_t choose_pointer(struct dice *dice, uint32_t main_size)
+{
+    static const uint32_t far[] = {0xFFFFFFFF, 0xFFFFFFFC, 0xFFFFFFFD, SETTINGS_START, 0x20000000, 0x80000000};
+    switch (below(dice, 6)) {
+    case 0:
+        return ONE_OF(dice, far);
+    case 1:
+        return main_size - 4;
+    case 2:
+        return main_size - 6 + below(dice, 8);
+    case 3:
+        return below(dice, main_size);
+    default:
+        return below(dice, main_size / 4) * 4;
+    }
+}
+
+static void choose_protection(struct dice *dice, uint32_t main_size, uint8_t *bits)
+{
+    uint32_t last = main_size / SECTOR - 1;
+    memset(bits, 0, 8);
+    switch (below(dice, 7)) {
+    case 0:
+        memset(bits, 0xFF, 8);
+        break;
+    case 1:
+        noise(dice, bits, 8);
+        break;
+    case 2:
+        bits[0] = 1;
+        break;
+    case 3:
+        bits[last / 8] = (uint8_t)(1u << last % 8);
+        break;
+    case 4: /* only beyond MAIN, where it has no effect */
+        if (last < 63)
+            bits[(last + 1) / 8] = (uint8_t)(1u << (last + 1) % 8);
+        break;
+    case 5:
+        memset(bits, 0x55, 8);
+        break;
+    default:
+        break;
+    }
+}
+
+void choose_fields(struct dice *dice, uint32_t main_size, uint8_t *fields)
+{
+    static const uint16_t readouts[] = {0xAABB, 0xAABB, 0xAABB, 0xAABB, 0xAABB, 0xAABB,
+                                        0xBBAA, 0xFFFF, 0x0000, 0xAABA, 0xABBB, 0x00BB};
+    choose_secret(dice, fields + PASSWORD_AT, 32);
+    choose_secret(dice, fields + RESET_PASSWORD_AT, 16);
+    fields[RESET_MODE_AT] = (uint8_t)below(dice, 3);
+    fields[ALERT_AT] = (uint8_t)below(dice, 3);
+    write16(fields + READOUT_AT, ONE_OF(dice, readouts));
+    fields[SETTINGS_PROTECTED_AT] = (uint8_t)chance(dice, 30);
+    fields[ZERO_AT] = 0;
+    noise(dice, fields + IDS_AT, 8);
+    write32(fields + POINTER_AT, choose_pointer(dice, main_size));
+    choose_protection(dice, main_size, fields + PROTECTION_AT);
+}
+
+void break_fields(struct dice *dice, uint8_t *fields)
+{
+    static const uint8_t at[] = {RESET_MODE_AT, ALERT_AT, SETTINGS_PROTECTED_AT, ZERO_AT};
+    static const uint8_t limit[] = {3, 3, 2, 1};
+    uint32_t which = below(dice, 4);
+    fields[at[which]] = chance(dice, 60) ? limit[which] : (uint8_t)(limit[which] + below(dice, 256u - limit[which]));
+}
+
+/* ---- Settings images ---- */
+
+/* One change that refusal 5, 6, 7 or 8 is about. */
+static void break_image(struct dice *dice, uint8_t *image)
+{
+    static const uint16_t filler_ends[] = {IMAGE_FILLER_AT, IMAGE_CHECKSUM_AT - 1};
+    uint32_t at;
+    switch (below(dice, 5)) {
+    case 0:
+        image[below(dice, 4)] ^= (uint8_t)(1u << below(dice, 8));
+        break;
+    case 1:
+    case 2:
+        image[IMAGE_ENTRIES_AT + below(dice, 48)] ^= (uint8_t)(1u << below(dice, 8));
+        break;
+    case 3:
+        at = IMAGE_FILLER_AT + below(dice, IMAGE_CHECKSUM_AT - IMAGE_FILLER_AT);
+        image[chance(dice, 50) ? ONE_OF(dice, filler_ends) : at] ^= (uint8_t)(1u << below(dice, 8));
+        break;
+    default:
+        break_fields(dice, image + IMAGE_FIELDS_AT);
+    }
+}
+
+static void damage_image(struct dice *dice, uint8_t *image)
+{
+    switch (below(dice, 8)) {
+    case 0: /* the checksum differs */
+        image[below(dice, SETTINGS_BYTES)] ^= (uint8_t)(1u << below(dice, 8));
+        break;
+    case 1: /* as if inverted at the end */
+        write32(image + IMAGE_CHECKSUM_AT, ~read32(image + IMAGE_CHECKSUM_AT));
+        break;
+    case 2: /* blank but for one bit */
+        memset(image, 0xFF, SETTINGS_BYTES);
+        image[below(dice, SETTINGS_BYTES)] ^= (uint8_t)(1u << below(dice, 8));
+        break;
+    case 3: /* blank but for a right checksum */
+        memset(image, 0xFF, SETTINGS_BYTES);
+        sign_image(image);
+        break;
+    default:
+        break_image(dice, image);
+        if (chance(dice, 30))
+            break_image(dice, image);
+        if (chance(dice, 90))
+            sign_image(image);
+    }
+}
+
+struct step choose_settings(struct dice *dice, uint32_t main_size)
+{
+    struct step step = {.kind = SET_SETTINGS};
+    uint8_t fields[FIELDS_BYTES], image[SETTINGS_BYTES];
+    choose_fields(dice, main_size, fields);
+    make_image(fields, image);
+    if (chance(dice, 12))
+        memset(image, 0xFF, SETTINGS_BYTES);
+    else if (chance(dice, 30))
+        damage_image(dice, image);
+    give_data(&step, image, SETTINGS_BYTES);
+    return step;
+}
+
+struct step choose_main(struct dice *dice, uint32_t main_size)
+{
+    return (struct step){.kind = SET_MAIN, .number = below(dice, 4), .fill = roll(dice), .main_size = main_size};
+}
+
+/* ---- Records ---- */
+
+static void choose_standing(struct dice *dice, uint8_t *record)
+{
+    static const uint32_t idles[] = {0, 0, 1, 5000, 7999, 8000, 9998, 9999};
+    static const uint32_t sleeps[] = {1, 2, 999, 1999, 2000};
+    memset(record, 0, RECORD_FIELDS_AT);
+    record[PHASE_AT] = (uint8_t)(chance(dice, 70) ? PHASE_COMMAND : below(dice, 5));
+    record[COUNT_AT] = (uint8_t)below(dice, 4);
+    record[RATE_AT] = (uint8_t)(1 + below(dice, 9));
+    write32(record + IDLE_AT, chance(dice, 70) ? ONE_OF(dice, idles) : below(dice, 10000));
+    if (record[PHASE_AT] != PHASE_COMMAND)
+        return;
+    if (chance(dice, 65))
+        record[LOCK_AT] = 1;
+    else if (chance(dice, 50))
+        write32(record + SLEEP_AT, chance(dice, 70) ? ONE_OF(dice, sleeps) : 1 + below(dice, 2000));
+}
+
+/* A number just above a limit, or far above it. */
+static uint32_t over(struct dice *dice, uint32_t limit)
+{
+    return chance(dice, 60) ? limit + 1 : limit + 1 + below(dice, 0xFFFFFFFFu - limit);
+}
+
+/* One clause of refusal 10 broken. */
+static void break_record(struct dice *dice, uint8_t *record)
+{
+    uint32_t clause = below(dice, 11);
+    if (clause == 0)
+        record[PHASE_AT] = (uint8_t)(chance(dice, 60) ? 5 : 5 + below(dice, 251));
+    if (clause == 1)
+        record[LOCK_AT] = (uint8_t)(chance(dice, 60) ? 2 : 2 + below(dice, 254));
+    if (clause == 2)
+        record[COUNT_AT] = (uint8_t)(chance(dice, 60) ? 4 : 4 + below(dice, 252));
+    if (clause == 3)
+        record[RATE_AT] = (uint8_t)(chance(dice, 50) ? 0 : chance(dice, 60) ? 10 : 10 + below(dice, 246));
+    if (clause == 4)
+        write32(record + SLEEP_AT, over(dice, 2000));
+    if (clause == 5)
+        write32(record + IDLE_AT, over(dice, 9999));
+    if (clause == 6)
+        write32(record + MAIN_SIZE_AT, choose_odd_main_size(dice));
+    if (clause == 7)
+        break_fields(dice, record + RECORD_FIELDS_AT);
+    if (clause == 8)
+        record[LOCK_AT] = 1; /* perhaps outside the command phase, or asleep */
+    if (clause == 9)
+        write32(record + SLEEP_AT, 1 + below(dice, 2000));
+    if (clause == 10)
+        write32(record + MAIN_SIZE_AT, over(dice, MAIN_LARGEST));
+}
+
+struct step choose_record(struct dice *dice, uint32_t main_size)
+{
+    struct step step = {.kind = SET_RECORD};
+    uint8_t record[RECORD_BYTES];
+    choose_standing(dice, record);
+    write32(record + MAIN_SIZE_AT, main_size);
+    choose_fields(dice, main_size, record + RECORD_FIELDS_AT);
+    if (chance(dice, 40))
+        break_record(dice, record);
+    if (chance(dice, 5))
+        break_record(dice, record);
+    if (chance(dice, 2))
+        noise(dice, record, RECORD_BYTES);
+    give_data(&step, record, RECORD_BYTES);
+    return step;
+}

@@ -1,0 +1,128 @@
+#ifndef COVERAGE_H
+#define COVERAGE_H
+
+#include <stddef.h>
+#include <stdio.h>
+
+#include "wire.h"
+
+/* Counts of what the calls of a run have shown. Every point listed here can arise, so a long run must see it. */
+
+#define COVERAGE_POINTS(P) \
+    P(ACK_00, "acknowledgement", "00") P(ACK_51, "", "51") P(ACK_52, "", "52") P(ACK_53, "", "53") \
+    P(ACK_54, "", "54") P(ACK_55_SHORT, "", "55 under 3 bytes") P(ACK_55_SIZE, "", "55 size not L+7") \
+    P(ACK_56_LENGTH, "", "56 L not 2") P(ACK_56_ID, "", "56 rate id") \
+    P(MESSAGE_00, "message", "00") P(MESSAGE_01, "", "01") P(MESSAGE_02, "", "02") P(MESSAGE_03, "", "03") \
+    P(MESSAGE_04, "", "04") P(MESSAGE_05, "", "05") P(MESSAGE_06, "", "06") P(MESSAGE_07, "", "07") \
+    P(MESSAGE_08, "", "08") P(MESSAGE_09, "", "09") P(MESSAGE_0A, "", "0A") P(MESSAGE_0B, "", "0B") \
+    P(START_TAKEN, "start, refusal", "none") P(START_1, "", "1") P(START_2, "", "2") P(START_3, "", "3") \
+    P(START_4, "", "4") P(START_5, "", "5") P(START_6, "", "6") P(START_7, "", "7") P(START_8, "", "8") \
+    P(START_10, "", "10") \
+    P(READ_TAKEN, "settings reader, refusal", "none") P(READ_3, "", "3") P(READ_4, "", "4") P(READ_5, "", "5") \
+    P(READ_6, "", "6") P(READ_7, "", "7") P(READ_8, "", "8") P(READ_10, "", "10") \
+    P(WRITE_TAKEN, "settings writer, refusal", "none") P(WRITE_3, "", "3") P(WRITE_8, "", "8") P(WRITE_10, "", "10") \
+    P(CALL_TAKEN, "session call, refusal", "none") P(CALL_9, "", "9") P(CALL_10, "", "10") \
+    P(ENTRY_1, "refusal 6, entry", "1") P(ENTRY_2, "", "2") P(ENTRY_3, "", "3") P(ENTRY_4, "", "4") \
+    P(ENTRY_5, "", "5") P(ENTRY_6, "", "6") P(ENTRY_KIND, "", "kind") P(ENTRY_OFFSET, "", "offset") \
+    P(ENTRY_LENGTH, "", "length") P(ENTRY_ZERO, "", "zero") \
+    P(FUSE_1, "start", "fuse 1") P(FUSE_256, "", "fuse with low byte 0") P(FUSE_OTHER, "", "fuse of other values") \
+    P(START_SMALL, "", "MAIN below 1,024") P(START_LARGE, "", "MAIN above 65,536") \
+    P(START_BROKEN, "", "MAIN no multiple") P(START_LEAST, "", "MAIN 1,024") P(START_MOST, "", "MAIN 65,536") \
+    P(START_BLANK, "", "blank image") P(START_WRITTEN, "", "written image") \
+    P(CLAUSE_SHORT, "10, one clause alone", "record area short") P(CLAUSE_LONG, "", "record area long") \
+    P(CLAUSE_PHASE, "", "phase byte") P(CLAUSE_LOCK, "", "lock byte") P(CLAUSE_IDLE, "", "idle") \
+    P(CLAUSE_SLEEP, "", "sleep") P(CLAUSE_COUNT, "", "wrong count") P(CLAUSE_RATE_0, "", "rate id 0") \
+    P(CLAUSE_RATE, "", "rate id above 9") P(CLAUSE_MODE, "", "reset mode") P(CLAUSE_ALERT, "", "alert") \
+    P(CLAUSE_PROTECTED, "", "settings protected") P(CLAUSE_ZERO, "", "zero byte") \
+    P(CLAUSE_UNLOCKED_OUTSIDE, "", "unlocked outside command") P(CLAUSE_SLEEP_OUTSIDE, "", "sleep outside command") \
+    P(CLAUSE_UNLOCKED_SLEEP, "", "unlocked and asleep") P(CLAUSE_MAIN, "", "MAIN size") \
+    P(CLAUSE_SETTINGS, "", "settings area") P(CLAUSE_UNLIKE, "", "MAIN unlike the lent") \
+    P(CLAUSE_IDLE_EDGE, "", "idle 10,000") P(CLAUSE_SLEEP_EDGE, "", "sleep 2,001") \
+    P(CLAUSE_COUNT_EDGE, "", "count 4") \
+    P(IN_DETECT, "call in phase", "detect") P(IN_LOCKED, "", "command locked") \
+    P(IN_UNLOCKED, "", "command unlocked") P(IN_ASLEEP, "", "command asleep") P(IN_STANDBY, "", "standby") \
+    P(IN_ENDED, "", "ended") P(IN_DISABLED, "", "disabled") \
+    P(TO_COMMAND, "change", "detect to command") P(TO_STANDBY, "", "detect to standby") \
+    P(TO_ENDED, "", "command to ended") P(TO_DISABLED, "", "command to disabled") \
+    P(TO_UNLOCKED, "", "locked to unlocked") P(TO_LOCKED, "", "unlocked to locked by idle") \
+    P(TO_LOCKED_WRONG, "", "unlocked to locked by password") P(RATE_CHANGED, "", "rate changed") \
+    P(RATE_BACK, "", "rate back to 2") \
+    P(SILENT_EMPTY, "no reply", "empty packet") P(SILENT_ASLEEP, "", "asleep") P(SILENT_DETECT, "", "in detect") \
+    P(SILENT_DAMAGED_CONNECT, "", "Connect damaged in detect") P(SILENT_STANDBY, "", "Connect as detect ends") \
+    P(WAIT_BELOW_SLEEP, "wait", "1 below sleep") P(WAIT_SLEEP, "", "equal to sleep") \
+    P(WAIT_1999, "", "1,999 of 2,000") P(WAIT_2000, "", "2,000 of 2,000") P(WAIT_OVER_SLEEP, "", "over sleep") \
+    P(WAIT_9999, "", "idle 9,999, unlocked") P(WAIT_10000, "", "idle 10,000, unlocked") \
+    P(WAIT_DETECT_9999, "", "idle 9,999, detect") P(WAIT_DETECT_10000, "", "idle 10,000, detect") \
+    P(WAIT_WRAP, "", "idle past 2^32") P(WAIT_LARGEST, "", "2^32-1") \
+    P(IDLE_KEPT, "idle above 0", "kept by a packet without 00") P(IDLE_UNKNOWN, "", "kept by an unknown code") \
+    P(IDLE_CLEARED, "", "cleared by a refused command") P(IDLE_CLEARED_SILENT, "", "cleared by a silent refusal") \
+    P(ALERT_0_THIRD, "alert, third wrong one", "nothing") P(ALERT_1_THIRD, "", "reset") \
+    P(ALERT_2_THIRD, "", "disable") \
+    P(ALERT_0_LATER, "alert, later wrong one", "nothing") P(ALERT_1_LATER, "", "reset") \
+    P(ALERT_2_LATER, "", "disable") \
+    P(ALERT_RESET_MODE_0, "alert reset in reset mode", "0") P(ALERT_RESET_MODE_1, "", "1") \
+    P(ALERT_RESET_MODE_2, "", "2") \
+    P(BURN, "alert", "burn the fuse") P(PASSWORD_KEPT, "", "unlocked by the session's password over blank settings") \
+    P(SECTOR_RANGE, "protected sector met by", "Range erase") P(SECTOR_MASS, "", "Mass erase") \
+    P(SECTOR_PROGRAM, "", "Program") P(SECTOR_FAST, "", "Program fast") P(SECTOR_FACTORY, "", "Factory reset") \
+    P(SECTOR_ALERT, "", "alert reset") P(SECTOR_PARTLY, "", "Program over the edge") \
+    P(SECTOR_RANGE_PARTLY, "", "Range erase over the edge") \
+    P(SETTINGS_PROGRAM, "protected settings met by", "Program") P(SETTINGS_FAST, "", "Program fast") \
+    P(SETTINGS_FACTORY, "", "Factory reset") P(SETTINGS_ALERT, "", "alert reset") \
+    P(FACTORY_OPEN, "Factory reset", "mode 1, L 1") P(FACTORY_OPEN_17, "", "mode 1, L 17") \
+    P(FACTORY_RIGHT, "", "mode 2, right") P(FACTORY_WRONG, "", "mode 2, wrong") P(FACTORY_NONE, "", "mode 2, none") \
+    P(FAST_LOCKED, "Program fast refused", "locked") P(FAST_LENGTH, "", "L") P(FAST_RANGE, "", "range") \
+    P(FAST_ALIGNMENT, "", "alignment") \
+    P(ALIGNMENT_ADDRESS, "alignment", "address only") P(ALIGNMENT_COUNT, "", "data size only") \
+    P(RANGE_AND_ALIGNMENT, "", "range before alignment") \
+    P(ERASE_WHOLE, "Range erase", "0 to the last byte") P(ERASE_LAST, "", "end the last byte") \
+    P(ERASE_PAST, "", "end past the last byte") P(ERASE_START_PAST, "", "start past the last byte") \
+    P(ERASE_ONE, "", "start equal to end") P(ERASE_BACKWARDS, "", "start one above end") \
+    P(ERASE_EDGES, "", "last byte of a sector to first of another") \
+    P(VERSION_INSIDE, "version pointer", "in MAIN") P(VERSION_LAST, "", "size - 4") P(VERSION_OVER, "", "size") \
+    P(VERSION_CUT, "", "size - 3 to size - 1") P(VERSION_UNEVEN, "", "no multiple of 4") \
+    P(VERSION_TOP, "", "0xFFFFFFFC") \
+    P(LENGTH_1721, "limits", "L 1,721 acknowledged") P(LENGTH_1722, "", "L 1,722, size fits") \
+    P(LENGTH_65535, "", "L 65,535, size fits") P(READ_0, "", "Read back 0") P(READ_1720, "", "Read back 1,720") \
+    P(READ_1721, "", "Read back 1,721") P(VERIFY_1023, "", "Verify 1,023") P(VERIFY_1024, "", "Verify 1,024") \
+    P(VERIFY_65536, "", "Verify 65,536") P(VERIFY_65537, "", "Verify 65,537") \
+    P(REPLY_LARGEST, "", "reply of 1,729 bytes") P(REPLY_1728, "", "reply area of 1,728") \
+    P(RATE_ID_1, "rate of id", "1") P(RATE_ID_2, "", "2") P(RATE_ID_3, "", "3") P(RATE_ID_4, "", "4") \
+    P(RATE_ID_5, "", "5") P(RATE_ID_6, "", "6") P(RATE_ID_7, "", "7") P(RATE_ID_8, "", "8") P(RATE_ID_9, "", "9") \
+    P(RATE_ID_0, "", "0") P(RATE_ID_10, "", "10") P(RATE_ID_LARGE, "", "above 255")
+
+enum coverage_point {
+#define POINT(name, group, label) name,
+    COVERAGE_POINTS(POINT)
+#undef POINT
+    POINTS_IN_ALL
+};
+
+void seen(int point);
+
+/* What became of an acknowledged command: a message 00 to 0B, other data, or no core reply. */
+enum outcome { OUTCOME_DATA = 12, OUTCOME_DONE, OUTCOME_REFUSED, OUTCOMES };
+void seen_outcome(uint8_t command, int outcome);
+
+/* Where a range lay that an unlocked Program, Program fast, Read back or Verify gave. */
+enum edge {
+    MAIN_FIRST,
+    MAIN_TO_END,
+    MAIN_OVER_END,
+    MAIN_AT_END,
+    SETTINGS_OVER_START,
+    SETTINGS_FIRST,
+    SETTINGS_TO_END,
+    SETTINGS_OVER_END,
+    SETTINGS_AT_END,
+    PAST_2_32,
+    EDGES
+};
+void seen_edge(uint8_t command, enum edge edge);
+
+void print_coverage(FILE *out);
+
+/* Names what was not seen, and what was seen though document 01 does not have it; returns how much that is. */
+size_t print_unseen(FILE *out);
+
+#endif

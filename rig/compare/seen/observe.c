@@ -1,0 +1,514 @@
+#include "observe.h"
+
+#include "coverage.h"
+#include "wire.h"
+
+#include <string.h>
+
+/* What an observer looks at. */
+struct sight {
+    const struct step *step;
+    const uint8_t *before, *record, *reply, *settings, *fields;
+    uint64_t answer;
+    uint32_t main_size;
+    /* of an acknowledged packet: */
+    const uint8_t *core;
+    size_t length;
+};
+
+static void seen_if(bool condition, int point)
+{
+    if (condition)
+        seen(point);
+}
+
+static unsigned refusal_of(uint64_t answer)
+{
+    return (unsigned)(answer >> 56);
+}
+
+static bool all_ff(const uint8_t *bytes, size_t count)
+{
+    while (count > 0 && bytes[count - 1] == 0xFF)
+        count--;
+    return count == 0;
+}
+
+/* ---- Start, the settings calls and the rate ---- */
+
+static void observe_entry(uint64_t answer, const uint8_t *image)
+{
+    uint8_t right[SETTINGS_BYTES];
+    uint32_t entry = (uint32_t)answer;
+    uint32_t at = IMAGE_ENTRIES_AT + 8 * (entry - 1);
+    make_image(image + IMAGE_FIELDS_AT, right);
+    while (right[at] == image[at])
+        at++;
+    seen(ENTRY_1 + (int)entry - 1);
+    seen(ENTRY_KIND + (int)((at - IMAGE_ENTRIES_AT) % 8 / 2));
+}
+
+static void observe_start(const struct sight *sight)
+{
+    unsigned refusal = refusal_of(sight->answer);
+    const struct step *step = sight->step;
+    size_t size = step->main_size;
+    seen(refusal == 10 ? START_10 : START_TAKEN + (int)refusal);
+    if (refusal == 1)
+        seen(step->number == 1 ? FUSE_1 : step->number % 256 == 0 ? FUSE_256 : FUSE_OTHER);
+    if (refusal == 2)
+        seen(size < 1024 ? START_SMALL : size > 65536 ? START_LARGE : START_BROKEN);
+    if (refusal == 6)
+        observe_entry(sight->answer, sight->settings);
+    if (refusal != 0)
+        return;
+    seen_if(size == 1024, START_LEAST);
+    seen_if(size == 65536, START_MOST);
+    seen(all_ff(sight->settings, SETTINGS_BYTES) ? START_BLANK : START_WRITTEN);
+}
+
+static void observe_read(const struct sight *sight)
+{
+    unsigned refusal = refusal_of(sight->answer);
+    if (refusal == 0)
+        seen(READ_TAKEN);
+    else
+        seen(refusal == 10 ? READ_10 : READ_3 + (int)refusal - 3);
+    if (refusal == 6)
+        observe_entry(sight->answer, sight->settings);
+}
+
+static void observe_write(const struct sight *sight)
+{
+    unsigned refusal = refusal_of(sight->answer);
+    seen_if(refusal == 0, WRITE_TAKEN);
+    seen_if(refusal == 3, WRITE_3);
+    seen_if(refusal == 8, WRITE_8);
+    seen_if(refusal == 10, WRITE_10);
+}
+
+static void observe_rate(uint32_t id)
+{
+    seen_if(id >= 1 && id <= 9, RATE_ID_1 + (int)id - 1);
+    seen_if(id == 0, RATE_ID_0);
+    seen_if(id == 10, RATE_ID_10);
+    seen_if(id > 255, RATE_ID_LARGE);
+}
+
+/* ---- Refusal 10 ---- */
+
+static bool main_size_fits(size_t size)
+{
+    return size >= 1024 && size <= 65536 && size % 1024 == 0;
+}
+
+/* How many clauses of 10 the record and the lent sizes break, and the last of them. */
+static int broken_clauses(const struct sight *sight, int *last)
+{
+    const uint8_t *record = sight->before, *fields = record + RECORD_FIELDS_AT;
+    bool unlocked = record[LOCK_AT] == 1, command = record[PHASE_AT] == PHASE_COMMAND;
+    uint32_t sleep = read32(record + SLEEP_AT), main_size = read32(record + MAIN_SIZE_AT);
+    const struct {
+        bool broken;
+        int clause;
+    } clauses[] = {{record[PHASE_AT] > 4, CLAUSE_PHASE},
+                   {record[LOCK_AT] > 1, CLAUSE_LOCK},
+                   {read32(record + IDLE_AT) > 9999, CLAUSE_IDLE},
+                   {sleep > 2000, CLAUSE_SLEEP},
+                   {record[COUNT_AT] > 3, CLAUSE_COUNT},
+                   {record[RATE_AT] == 0, CLAUSE_RATE_0},
+                   {record[RATE_AT] > 9, CLAUSE_RATE},
+                   {fields[RESET_MODE_AT] > 2, CLAUSE_MODE},
+                   {fields[ALERT_AT] > 2, CLAUSE_ALERT},
+                   {fields[SETTINGS_PROTECTED_AT] > 1, CLAUSE_PROTECTED},
+                   {fields[ZERO_AT] != 0, CLAUSE_ZERO},
+                   {unlocked && !command, CLAUSE_UNLOCKED_OUTSIDE},
+                   {sleep > 0 && !command, CLAUSE_SLEEP_OUTSIDE},
+                   {unlocked && sleep > 0, CLAUSE_UNLOCKED_SLEEP},
+                   {!main_size_fits(main_size), CLAUSE_MAIN},
+                   {sight->step->settings_size != SETTINGS_BYTES, CLAUSE_SETTINGS},
+                   {sight->step->main_size != main_size, CLAUSE_UNLIKE}};
+    int count = 0;
+    for (size_t i = 0; i < sizeof clauses / sizeof *clauses; i++)
+        if (clauses[i].broken) {
+            count++;
+            *last = clauses[i].clause;
+        }
+    return count;
+}
+
+static void observe_clause(const struct sight *sight)
+{
+    int clause = 0;
+    int broken = broken_clauses(sight, &clause);
+    size_t size = sight->step->record_size;
+    if (size != RECORD_BYTES) {
+        seen_if(broken == 0, size < RECORD_BYTES ? CLAUSE_SHORT : CLAUSE_LONG);
+        return;
+    }
+    if (broken != 1)
+        return;
+    seen(clause);
+    seen_if(clause == CLAUSE_IDLE && read32(sight->before + IDLE_AT) == 10000, CLAUSE_IDLE_EDGE);
+    seen_if(clause == CLAUSE_SLEEP && read32(sight->before + SLEEP_AT) == 2001, CLAUSE_SLEEP_EDGE);
+    seen_if(clause == CLAUSE_COUNT && sight->before[COUNT_AT] == 4, CLAUSE_COUNT_EDGE);
+}
+
+/* ---- Phases and waits ---- */
+
+static uint32_t sleep_before(const struct sight *sight)
+{
+    return read32(sight->before + SLEEP_AT);
+}
+
+/* Idle after the wait, before rule (c) looks at it. */
+static uint64_t idle_sum(const struct sight *sight)
+{
+    return (uint64_t)read32(sight->before + IDLE_AT) + (sight->step->number - sleep_before(sight));
+}
+
+static bool unlocked_now(const struct sight *sight)
+{
+    return sight->before[LOCK_AT] == 1 && idle_sum(sight) < 10000;
+}
+
+static void observe_phase(const struct sight *sight)
+{
+    static const int points[] = {IN_DETECT, IN_LOCKED, IN_STANDBY, IN_ENDED, IN_DISABLED};
+    int point = points[sight->before[PHASE_AT]];
+    if (point == IN_LOCKED && sight->before[LOCK_AT] == 1)
+        point = IN_UNLOCKED;
+    if (point == IN_LOCKED && sleep_before(sight) > 0)
+        point = IN_ASLEEP;
+    seen(point);
+}
+
+static void observe_wait(const struct sight *sight)
+{
+    uint32_t wait = sight->step->number, sleep = sleep_before(sight);
+    bool detect = sight->before[PHASE_AT] == PHASE_DETECT, unlocked = sight->before[LOCK_AT] == 1;
+    seen_if(wait == 0xFFFFFFFFu, WAIT_LARGEST);
+    if (sleep > 0) {
+        seen_if(wait == sleep - 1, WAIT_BELOW_SLEEP);
+        seen_if(wait == sleep, WAIT_SLEEP);
+        seen_if(wait > sleep, WAIT_OVER_SLEEP);
+        seen_if(sleep == 2000 && wait == 1999, WAIT_1999);
+        seen_if(sleep == 2000 && wait == 2000, WAIT_2000);
+    }
+    if (sleep > wait)
+        return;
+    seen_if(idle_sum(sight) == 9999 && unlocked, WAIT_9999);
+    seen_if(idle_sum(sight) == 10000 && unlocked, WAIT_10000);
+    seen_if(idle_sum(sight) == 9999 && detect, WAIT_DETECT_9999);
+    seen_if(idle_sum(sight) == 10000 && detect, WAIT_DETECT_10000);
+    seen_if(idle_sum(sight) > 0xFFFFFFFFu, WAIT_WRAP);
+}
+
+static void observe_change(const struct sight *sight)
+{
+    const uint8_t *old = sight->before, *new = sight->record;
+    seen_if(old[PHASE_AT] == PHASE_DETECT && new[PHASE_AT] == PHASE_COMMAND, TO_COMMAND);
+    seen_if(old[PHASE_AT] == PHASE_DETECT && new[PHASE_AT] == PHASE_STANDBY, TO_STANDBY);
+    seen_if(new[PHASE_AT] == PHASE_ENDED, TO_ENDED);
+    seen_if(new[PHASE_AT] == PHASE_DISABLED, TO_DISABLED);
+    seen_if(old[LOCK_AT] == 0 && new[LOCK_AT] == 1, TO_UNLOCKED);
+    if (old[LOCK_AT] == 1 && new[LOCK_AT] == 0 && new[PHASE_AT] == PHASE_COMMAND)
+        seen(read32(new + SLEEP_AT) > 0 ? TO_LOCKED_WRONG : TO_LOCKED);
+    seen_if(new[RATE_AT] != old[RATE_AT] && new[RATE_AT] != 2, RATE_CHANGED);
+    seen_if(new[RATE_AT] != old[RATE_AT] && new[RATE_AT] == 2 && read32(new + SLEEP_AT) > 0, RATE_BACK);
+}
+
+static void observe_silence(const struct sight *sight)
+{
+    const struct step *step = sight->step;
+    bool connect = step->data_size == 8 && step->data[3] == 0x12;
+    if (sleep_before(sight) > step->number) {
+        seen(SILENT_ASLEEP);
+        return;
+    }
+    seen_if(step->data_size == 0, SILENT_EMPTY);
+    seen_if(sight->record[PHASE_AT] == PHASE_DETECT && step->data_size > 0, SILENT_DETECT);
+    seen_if(sight->record[PHASE_AT] == PHASE_DETECT && connect, SILENT_DAMAGED_CONNECT);
+    seen_if(sight->record[PHASE_AT] == PHASE_STANDBY && connect, SILENT_STANDBY);
+}
+
+/* ---- Ranges ---- */
+
+static bool in_one_region(const struct sight *sight, uint32_t first, uint64_t count)
+{
+    uint64_t end = first + count;
+    return end <= sight->main_size || (first >= SETTINGS_START && end <= (uint64_t)SETTINGS_START + SETTINGS_BYTES);
+}
+
+static void observe_edges(const struct sight *sight, uint32_t first, uint32_t count)
+{
+    uint8_t command = sight->core[0];
+    uint64_t end = (uint64_t)first + count, settings_end = (uint64_t)SETTINGS_START + SETTINGS_BYTES;
+    const bool at[EDGES] = {[MAIN_FIRST] = first == 0 && end <= sight->main_size,
+                            [MAIN_TO_END] = end == sight->main_size,
+                            [MAIN_OVER_END] = first < sight->main_size && end > sight->main_size,
+                            [MAIN_AT_END] = first == sight->main_size,
+                            [SETTINGS_OVER_START] = first < SETTINGS_START && end > SETTINGS_START,
+                            [SETTINGS_FIRST] = first == SETTINGS_START && end <= settings_end,
+                            [SETTINGS_TO_END] = first >= SETTINGS_START && end == settings_end,
+                            [SETTINGS_OVER_END] = first >= SETTINGS_START && first < settings_end && end > settings_end,
+                            [SETTINGS_AT_END] = first == settings_end,
+                            [PAST_2_32] = end > 0x100000000u};
+    for (int edge = 0; edge < EDGES; edge++)
+        if (at[edge])
+            seen_edge(command, (enum edge)edge);
+}
+
+/* How many sectors from one to another are protected. */
+static uint32_t protected_sectors(const struct sight *sight, uint32_t first, uint32_t last)
+{
+    uint32_t count = 0;
+    for (uint32_t sector = first; sector <= last; sector++)
+        count += sight->fields[PROTECTION_AT + sector / 8] / (1u << sector % 8) % 2;
+    return count;
+}
+
+static bool any_protected(const struct sight *sight)
+{
+    return protected_sectors(sight, 0, sight->main_size / SECTOR - 1) > 0;
+}
+
+static void observe_program(const struct sight *sight, int outcome)
+{
+    bool fast = sight->core[0] == 0x24;
+    uint32_t first = read32(sight->core + 1), count = (uint32_t)sight->length - 5;
+    observe_edges(sight, first, count);
+    seen_if(outcome == 0x05 && (first % 8 != 0 || count % 8 != 0), RANGE_AND_ALIGNMENT);
+    seen_if(outcome == 0x0A && count % 8 == 0, ALIGNMENT_ADDRESS);
+    seen_if(outcome == 0x0A && first % 8 == 0, ALIGNMENT_COUNT);
+    if (outcome != 0x00 && outcome != OUTCOME_DONE)
+        return;
+    if (first >= SETTINGS_START) {
+        seen_if(sight->fields[SETTINGS_PROTECTED_AT] == 1, fast ? SETTINGS_FAST : SETTINGS_PROGRAM);
+        return;
+    }
+    uint32_t start = first / SECTOR, end = (first + count - 1) / SECTOR;
+    uint32_t kept = protected_sectors(sight, start, end);
+    seen_if(kept > 0, fast ? SECTOR_FAST : SECTOR_PROGRAM);
+    seen_if(kept > 0 && kept < end - start + 1, SECTOR_PARTLY);
+}
+
+static void observe_range_erase(const struct sight *sight, int message)
+{
+    uint32_t start = read32(sight->core + 1), end = read32(sight->core + 5), last = sight->main_size - 1;
+    seen_if(start == 0 && end == last, ERASE_WHOLE);
+    seen_if(start <= last && end == last, ERASE_LAST);
+    seen_if(start <= last && end == last + 1, ERASE_PAST);
+    seen_if(start == last + 1 && end >= start, ERASE_START_PAST);
+    seen_if(start == end && end <= last, ERASE_ONE);
+    seen_if(start == end + 1 && start <= last, ERASE_BACKWARDS);
+    if (message != 0x00)
+        return;
+    seen_if(start % SECTOR == SECTOR - 1 && end % SECTOR == 0, ERASE_EDGES);
+    uint32_t kept = protected_sectors(sight, start / SECTOR, end / SECTOR);
+    seen_if(kept > 0, SECTOR_RANGE);
+    seen_if(kept > 0 && kept < end / SECTOR - start / SECTOR + 1, SECTOR_RANGE_PARTLY);
+}
+
+static void observe_read_back(const struct sight *sight, int outcome)
+{
+    uint32_t count = read32(sight->core + 5);
+    observe_edges(sight, read32(sight->core + 1), count);
+    seen_if(count == 0 && outcome == 0x05, READ_0);
+    seen_if(count == 1720 && outcome == OUTCOME_DATA, READ_1720);
+    seen_if(count == 1721 && outcome == 0x05 && in_one_region(sight, read32(sight->core + 1), count), READ_1721);
+}
+
+static void observe_verify(const struct sight *sight, int outcome)
+{
+    uint32_t count = read32(sight->core + 5);
+    observe_edges(sight, read32(sight->core + 1), count);
+    seen_if(count == 1023 && outcome == 0x0B, VERIFY_1023);
+    seen_if(count == 1024 && outcome == OUTCOME_DATA, VERIFY_1024);
+    seen_if(count == 65536 && outcome == OUTCOME_DATA, VERIFY_65536);
+    seen_if(count == 65537 && outcome == 0x05, VERIFY_65537);
+}
+
+/* ---- The other commands ---- */
+
+static void observe_alert(const struct sight *sight)
+{
+    uint8_t alert = sight->fields[ALERT_AT];
+    seen((sight->before[COUNT_AT] == 3 ? ALERT_0_LATER : ALERT_0_THIRD) + alert);
+    seen_if(sight->answer >> 32 & 1, BURN);
+    if (alert != 1)
+        return;
+    seen(ALERT_RESET_MODE_0 + sight->fields[RESET_MODE_AT]);
+    seen_if(any_protected(sight), SECTOR_ALERT);
+    seen_if(sight->fields[SETTINGS_PROTECTED_AT] == 1, SETTINGS_ALERT);
+}
+
+static void observe_unlock(const struct sight *sight, int message)
+{
+    if (message == 0x03)
+        observe_alert(sight);
+    seen_if(message == 0x00 && all_ff(sight->settings, SETTINGS_BYTES) && !all_ff(sight->fields + PASSWORD_AT, 32),
+            PASSWORD_KEPT);
+}
+
+static void observe_factory_reset(const struct sight *sight, int message)
+{
+    uint8_t mode = sight->fields[RESET_MODE_AT];
+    seen_if(mode == 2 && message == 0x08, sight->length == 1 ? FACTORY_NONE : FACTORY_WRONG);
+    if (message != 0x00)
+        return;
+    seen(mode == 2 ? FACTORY_RIGHT : sight->length == 1 ? FACTORY_OPEN : FACTORY_OPEN_17);
+    seen_if(any_protected(sight), SECTOR_FACTORY);
+    seen_if(sight->fields[SETTINGS_PROTECTED_AT] == 1, SETTINGS_FACTORY);
+}
+
+static void observe_info(const struct sight *sight)
+{
+    uint32_t pointer = read32(sight->fields + POINTER_AT), size = sight->main_size;
+    bool even = pointer % 4 == 0;
+    seen_if(even && pointer < size - 4, VERSION_INSIDE);
+    seen_if(pointer == size - 4, VERSION_LAST);
+    seen_if(pointer == size, VERSION_OVER);
+    seen_if(pointer > size - 4 && pointer < size, VERSION_CUT);
+    seen_if(!even && pointer < size - 4, VERSION_UNEVEN);
+    seen_if(pointer == 0xFFFFFFFCu, VERSION_TOP);
+}
+
+static int judge_fast(const struct sight *sight)
+{
+    if (!unlocked_now(sight))
+        return FAST_LOCKED;
+    if (sight->length < 6)
+        return FAST_LENGTH;
+    uint32_t first = read32(sight->core + 1), count = (uint32_t)sight->length - 5;
+    if (!in_one_region(sight, first, count))
+        return FAST_RANGE;
+    return first % 8 != 0 || count % 8 != 0 ? FAST_ALIGNMENT : -1;
+}
+
+/* What became of a command that gets no core reply. */
+static int silent_outcome(const struct sight *sight)
+{
+    bool done = sight->core[0] == 0x52 || sight->length == 1;
+    if (sight->core[0] == 0x24) {
+        int refusal = judge_fast(sight);
+        seen_if(refusal >= 0, refusal);
+        done = refusal < 0;
+    }
+    return done ? OUTCOME_DONE : OUTCOME_REFUSED;
+}
+
+/* ---- Replies of the command phase ---- */
+
+static void observe_refused_packet(const struct sight *sight)
+{
+    const struct step *step = sight->step;
+    uint8_t acknowledgement = sight->reply[0];
+    uint32_t length = step->data_size >= 3 ? read16(step->data + 1) : 0;
+    if (acknowledgement == 0x55)
+        seen(step->data_size < 3 ? ACK_55_SHORT : ACK_55_SIZE);
+    else if (acknowledgement == 0x56)
+        seen(length != 2 ? ACK_56_LENGTH : ACK_56_ID);
+    else
+        seen(ACK_51 + acknowledgement - 0x51);
+    if (acknowledgement == 0x56)
+        seen_outcome(0x52, OUTCOME_REFUSED);
+    seen_if(idle_sum(sight) > 0 && idle_sum(sight) < 10000, IDLE_KEPT);
+    seen_if(length == 1722 && step->data_size == 1729 && acknowledgement == 0x54, LENGTH_1722);
+    seen_if(length == 65535 && step->data_size == 65542 && acknowledgement == 0x54, LENGTH_65535);
+}
+
+static void observe_idle(const struct sight *sight, int outcome)
+{
+    if (idle_sum(sight) == 0 || idle_sum(sight) >= 10000)
+        return;
+    seen_if(outcome == 0x04, IDLE_UNKNOWN);
+    seen_if(outcome > 0x00 && outcome <= 0x0B && outcome != 0x04, IDLE_CLEARED);
+    seen_if(outcome == OUTCOME_REFUSED, IDLE_CLEARED_SILENT);
+}
+
+static void observe_command(const struct sight *sight, int outcome)
+{
+    uint8_t command = sight->core[0];
+    bool open = unlocked_now(sight) && outcome != 0x06;
+    if (command == 0x21)
+        observe_unlock(sight, outcome);
+    if (command == 0x19 && outcome == OUTCOME_DATA)
+        observe_info(sight);
+    if (command == 0x15)
+        seen_if(outcome == 0x00 && any_protected(sight), SECTOR_MASS);
+    if (command == 0x30 && open)
+        observe_factory_reset(sight, outcome);
+    if (command == 0x23 && open)
+        observe_range_erase(sight, outcome);
+    if ((command == 0x20 || command == 0x24) && open && sight->length >= 6)
+        observe_program(sight, outcome);
+    if (command == 0x29 && open)
+        observe_read_back(sight, outcome);
+    if (command == 0x26 && open)
+        observe_verify(sight, outcome);
+}
+
+static void observe_acknowledged(struct sight *sight, uint32_t reply_length)
+{
+    int outcome;
+    sight->core = sight->step->data + 3;
+    sight->length = sight->step->data_size - 7;
+    seen(ACK_00);
+    seen_if(sight->length == CORE_LARGEST, LENGTH_1721);
+    seen_if(reply_length == REPLY_LEAST, REPLY_LARGEST);
+    if (reply_length == 1)
+        outcome = silent_outcome(sight);
+    else
+        outcome = sight->reply[4] == 0x3B ? sight->reply[5] % OUTCOME_DATA : OUTCOME_DATA;
+    if (outcome < OUTCOME_DATA)
+        seen(MESSAGE_00 + outcome);
+    seen_outcome(sight->core[0], outcome);
+    observe_idle(sight, outcome);
+    observe_command(sight, outcome);
+}
+
+static void observe_session(struct sight *sight)
+{
+    unsigned refusal = refusal_of(sight->answer);
+    uint32_t reply_length = (uint32_t)sight->answer;
+    seen(refusal == 9 ? CALL_9 : refusal == 10 ? CALL_10 : CALL_TAKEN);
+    seen_if(refusal == 9 && sight->step->reply_size == 1728, REPLY_1728);
+    if (refusal == 10)
+        observe_clause(sight);
+    if (refusal != 0)
+        return;
+    observe_phase(sight);
+    if (sight->before[PHASE_AT] > PHASE_COMMAND)
+        return;
+    observe_wait(sight);
+    observe_change(sight);
+    if (reply_length == 0)
+        observe_silence(sight);
+    else if (sight->before[PHASE_AT] == PHASE_COMMAND && sight->reply[0] == 0x00)
+        observe_acknowledged(sight, reply_length);
+    else if (sight->before[PHASE_AT] == PHASE_COMMAND)
+        observe_refused_packet(sight);
+}
+
+void observe(const struct step *step, const uint8_t *before, const struct side *after)
+{
+    struct sight sight = {.step = step,
+                          .before = before,
+                          .record = after->area[AREA_RECORD],
+                          .reply = after->area[AREA_REPLY],
+                          .settings = after->area[AREA_SETTINGS],
+                          .fields = before + RECORD_FIELDS_AT,
+                          .answer = after->answer,
+                          .main_size = read32(before + MAIN_SIZE_AT)};
+    if (step->kind == CALL_START)
+        observe_start(&sight);
+    if (step->kind == CALL_READ)
+        observe_read(&sight);
+    if (step->kind == CALL_WRITE)
+        observe_write(&sight);
+    if (step->kind == CALL_RATE)
+        observe_rate(step->number);
+    if (step->kind == CALL_SESSION)
+        observe_session(&sight);
+}

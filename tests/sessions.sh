@@ -1,0 +1,69 @@
+# Sessions through the built runner. Each NAME.txt of tests/sessions is made into a script, and what the runner prints of it is
+# held to NAME.expected; a byte less or more breaks its form. Then scripts that break the form in one way each. Run after `rt ci`.
+set -u
+bad=0 seen=0
+work=$(mktemp -d) || exit 1
+trap 'rm -rf "$work"' EXIT
+
+complain() {
+    echo "sessions: $1"
+    bad=1
+}
+
+# The script in FILE prints what EXPECTED has, and the runner ends well.
+prints() { # WHAT FILE EXPECTED
+    tools/run_script.sh "$2" >"$work/printed" || complain "$1: the runner ended with status $?"
+    cmp "$work/printed" "$3" || complain "$1: not what is expected"
+}
+
+rt check runner >"$work/log" 2>&1 || {
+    cat "$work/log"
+    exit 1
+}
+echo 'bad script' >"$work/refusal"
+
+for text in tests/sessions/*.txt; do
+    name=$(basename "$text" .txt)
+    script=$work/$name
+    tools/make_script.py "$text" "$script" || complain "$name: no script"
+    size=$(wc -c <"$script")
+    seen=$((seen + 1))
+    prints "$name" "$script" "tests/sessions/$name.expected"
+    head -c $((size - 1)) "$script" >"$work/less"
+    prints "$name without its last byte" "$work/less" "$work/refusal"
+    { cat "$script" && printf '\0'; } >"$work/more"
+    prints "$name and a byte" "$work/more" "$work/refusal"
+done
+[ "$seen" -eq "$(ls tests/sessions/*.expected | wc -l)" ] || complain "a session has no text, or none was played"
+
+# What document 01 prints in full is the crate's own input and output.
+cmp "$work/example" crates/runner/stdin || complain "the example is not the crate's input"
+cmp tests/sessions/example.expected crates/runner/stdout || complain "the example is not the crate's output"
+
+# A script that comes in pieces is read to its end.
+{ head -c 11 "$work/example" && sleep 0.1 && tail -c +12 "$work/example"; } |
+    tools/run_script.sh /dev/stdin >"$work/printed"
+cmp "$work/printed" tests/sessions/example.expected || complain "a script in pieces: not what is expected"
+
+# FRONT (printf's escapes) and so many zeros break the form.
+breaks() { # WHAT FRONT ZEROS
+    { printf "$2" && head -c "$3" /dev/zero; } >"$work/broken"
+    prints "$1" "$work/broken" "$work/refusal"
+}
+
+breaks 'no byte' '' 0
+breaks 'half a count' '\001' 0
+breaks 'count 0' '\000\000' 0
+breaks 'count 0 and an entry' '\000\000' 6
+breaks 'one entry, none there' '\001\000' 0
+breaks 'one entry without its last byte' '\001\000' 5
+breaks 'two entries, one there' '\002\000' 6
+breaks '65 entries' '\101\000' 390
+breaks '257 entries, one there' '\001\001' 6
+breaks '65,535 entries' '\377\377' 65534
+breaks 'a packet of two bytes, one there' '\001\000\000\000\000\000\002\000' 1
+breaks 'a packet of two bytes, three there' '\001\000\000\000\000\000\002\000' 3
+breaks 'a packet of 257 bytes, one there' '\001\000\000\000\000\000\001\001' 1
+breaks '65,537 bytes' '\001\000\000\000\000\000\371\377' 65529
+breaks '131,084 bytes' '\002\000\000\000\000\000\377\377\000\000\000\000\377\377' 131070
+exit "$bad"
