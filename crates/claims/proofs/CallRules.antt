@@ -3,10 +3,11 @@
 use mathlib.Core.Path.{_≡_, refl, sym, ap, _∙_}
 use mathlib.Core.Bool.{Bool, true, false, true≢false, not}
 use mathlib.Core.List.{List}
+use mathlib.Core.Logic.{_⊎_, inl, inr}
 use Prim.Native.Nat.{ℕ, _≤_}
 use native.Mathlib.Omega.{arith}
 use borrow.Author.Tests.{le-ltb, eq-eqb, eqb-true, not-false}
-use lib.Dec.{eqb}
+use lib.Dec.{ltb, eqb}
 use lib.ListN.{length, getD}
 use Rattle.octets.specs.Choice.{pick}
 use Rattle.octets.proofs.Searching.{pick-false, pick-both, by-pick}
@@ -33,6 +34,10 @@ use Rattle.loader.specs.Calling.{boardOf, judgement, serveOf, callOf}
 use Rattle.loader.proofs.CallLaws.{every-call}
 use Rattle.loader.proofs.RecordLaws.{record-by-clauses, clauses-make-record}
 
+-- a call's number: 0 where it is done, 9 or 10 where it is refused
+abbrev Answered : ℕ → Type 0
+Answered number = (number ≡ 0) ⊎ ((number ≡ 9) ⊎ (number ≡ 10))
+
 module _ (session : Session) (before : Memory) (wait : ℕ) (packet area : List ℕ) where
   abbrev after : Left
   after = callOf session before wait packet area
@@ -40,6 +45,14 @@ module _ (session : Session) (before : Memory) (wait : ℕ) (packet area : List 
   -- a valid record, beside the images that are lent
   abbrev isValidRecord : Type 0
   isValidRecord = isRecord session (length (before .main)) (length (before .settings)) ≡ true
+
+  -- every call has an answer: it is done, or refused by 9 or by 10
+  pub call-is-answered : Answered (after .answer .number)
+  unfolding callOf serveOf
+  call-is-answered =
+      by-pick (λ (left : Left). Answered (left .answer .number)) (ltb (length area) replyLimit) _ _ (λ y. inr (inl refl))
+      (λ n. by-pick (λ (left : Left). Answered (left .answer .number)) (not (isRecord session (length (before .main)) (length (before .settings)))) _ _
+      (λ y. inr (inr refl)) (λ n. inl refl))
 
   -- both images keep their lengths
   pub call-keeps-lengths : (length (after .memory .main) ≡ length (before .main)) × (length (after .memory .settings) ≡ length (before .settings))

@@ -31,6 +31,10 @@ pub mod LockedBoard
 pub mod LockedCall
 -- ToldApart: demand 3, two boards that nobody without a password can tell apart.
 pub mod ToldApart
+-- HeldSessions: a valid session whose settings were read of bytes can be held.
+pub mod HeldSessions
+-- ToldApartFromC: demand 3 as C sees it.
+pub mod ToldApartFromC
 -- Framing: a core that is framed as 01 says is acknowledged.
 pub mod Framing
 -- SomePackets: Connect and Unlock, and what they do to some sessions.
@@ -41,3 +45,5 @@ pub mod SomeBoards
 pub mod SomeSessions
 -- NotVacuous: demand 3 speaks of boards and sessions that there are.
 pub mod NotVacuous
+-- NotVacuousFromC: and so it does as C sees it.
+pub mod NotVacuousFromC

@@ -9,11 +9,12 @@ use borrow.Author.Tests.{eq-eqb, eqb-true, le-leb, leb-true}
 use lib.ListN.{length, getD, take, drop, length-append, take-append-drop}
 use lib.Seq.{take-all, drop-length, take-suc, drop-cons, take-at, drop-at, drop-drop}
 use Rattle.octets.specs.Number.{numberOf, bytesOf, part, numberAt}
-use Rattle.octets.proofs.Numbers.{number-of-bytes, bytes-of-number, number-fits, length-bytesOf}
+use Rattle.octets.proofs.Numbers.{number-of-bytes, bytes-of-number, length-bytesOf}
 use Rattle.octets.proofs.Parts.{length-part, each-part}
 use Rattle.octets.proofs.Searching.{pick-true, pick-both}
 use Rattle.script.specs.Form.{scriptLimit, mostEntries, countIn, waitIn, lengthIn, lengthsIn, packetAt, packetIn, keepsForm}
 use Rattle.claims.specs.MadeScript.{Entry, nothing, headsOf, packetsOf, scriptMade, Fit, Holds, entriesFrom, entriesIn}
+use Rattle.claims.proofs.HeldSessions.{number-held}
 
 -- ---- what stands where
 
@@ -164,10 +165,6 @@ module _ (script : List ℕ) (each : (k : ℕ) → getD script k 0 < 256) (size 
       ap (λ (w : ℕ). bytesOf w (numberAt at width script)) (sym (length-part at width script h))
       ∙ bytes-of-number (part at width script) (each-part at width script each)
 
-  number-small : (at width : ℕ) → at + width ≤ length script → numberAt at width script < 256 ^ width
-  number-small at width h =
-      rw (length-part at width script h) at (number-fits (part at width script) (each-part at width script each))
-
   packet-inside : (i m : ℕ) → i + suc m ≡ n → packetAt script i + lengthIn script i ≤ length script
   unfolding lengthsIn
   packet-inside i m e =
@@ -214,12 +211,12 @@ module _ (script : List ℕ) (each : (k : ℕ) → getD script k 0 < 256) (size 
         some = rw length-entries (leb-true 1 n (some .0));
         few = rw length-entries (leb-true n mostEntries (few .0));
         short = rw read-is-made (leb-true (length script) scriptLimit (short .0));
-        waits = each-entry (λ entry. entry .wait < 256 ^ 4) script 0 n (omega arith) (λ i h. number-small (2 + 6 * i) 4 (omega (arith, size)));
+        waits = each-entry (λ entry. entry .wait < 256 ^ 4) script 0 n (omega arith) (λ i h. number-held script each (2 + 6 * i) 4 (omega (arith, size)));
         lengths =
             each-entry (λ entry. length (entry .packet) < 256 ^ 2) script 0 n (omega arith)
             (λ i h.
             let inside = length-part (packetAt script i) (lengthIn script i) script (packet-inside i (n - suc i) (omega arith)) in
-            rw inside (number-small (6 + 6 * i) 2 (omega (arith, size))));
+            rw inside (number-held script each (6 + 6 * i) 2 (omega (arith, size))));
       }
 
 -- a script that keeps the form is made of the entries that are read in it

@@ -109,7 +109,7 @@ pub blank-reads : readOf form1 (replicate imageSize 0xFF) ≡ accepted blankSett
 unfolding readOf pick
 blank-reads = rw (replicate-all-are 0xFF imageSize)
 
-blank-held : Held blankSettings
+pub blank-held : Held blankSettings
 blank-held = record {
   shown = record { readout = omega arith; bcr = omega arith; bsl = omega arith; pointer = omega arith };
   protection = record { size = refl; each = each-replicate 8 0 (omega arith) };

@@ -5,5 +5,7 @@ pub mod Held
 pub mod MadeScript
 -- TwoBoards: demand 3, sentence by sentence.
 pub mod TwoBoards
+-- TwoBoardsFromC: the same, as C sees it.
+pub mod TwoBoardsFromC
 -- Trials: boards and packets on which it is tried.
 pub mod Trials

@@ -1,0 +1,101 @@
+-- Demand 3 as C sees it: two record areas, the same numbers and packets; the same returned numbers, and the same bytes of the replies.
+-- `startFromC` and `callFromC` are what the functions that C calls are proved to do.
+use Prim.Native.Nat.{ℕ, _%_, _<_}
+use mathlib.Core.Path.{_≡_}
+use mathlib.Core.Bool.{Bool, false}
+use mathlib.Core.List.{List, [], _∷_}
+use lib.Dec.{eqb}
+use lib.ListN.{length, getD, take}
+use Rattle.octets.specs.Choice.{pick}
+use Rattle.standing.specs.Phases.{mostWrong}
+use Rattle.judge.specs.Unlocking.{alertReset}
+use Rattle.act.specs.Memory.{Memory, settingsProtection}
+use Rattle.rig.specs.Records.{recordSize, fieldsAt}
+use Rattle.rig.specs.Boundary.{refusalUnit, burnUnit, Stored, startFromC, Called, callFromC}
+use Rattle.claims.specs.TwoBoards.{Images, settingsOf, Sending, WithoutPassword, AsClaimed}
+
+-- ---- the boards
+
+-- a board in its session, from C: its record area, and the images as they are now
+pub record RunningFromC : Type 0 where
+  pub area : List ℕ
+  pub memory : Memory
+
+-- start on a board whose fuse is not set
+abbrev pub startedOn : Images → List ℕ → Stored
+startedOn images area = startFromC 0 (images .main) (images .settings) area
+
+abbrev pub startedFromC : Images → List ℕ → RunningFromC
+startedFromC images area = record { area = startedOn images area .area; memory = images }
+
+-- what is lent to start: settings of bytes, for a record area holds bytes alone; and an area of its size, with any contents
+pub record Lent (images : Images) (area : List ℕ) : Type 0 where
+  pub bytes : (k : ℕ) → getD (images .settings) k 0 < 256
+  pub size : length area ≡ recordSize
+
+-- ---- what is claimed after every call
+
+-- what the call leaves of a board, and the board then
+abbrev pub calledFromC : RunningFromC → Sending → List ℕ → Called
+calledFromC board sending reply = callFromC (board .area) (board .memory) (sending .wait) (sending .packet) reply
+
+abbrev pub nextFromC : Called → RunningFromC
+nextFromC left = record { area = left .area; memory = left .memory }
+
+-- "same replies": as many bytes of the reply area as the low half of the returned number says
+abbrev pub repliedFromC : Called → List ℕ
+repliedFromC left = take (left .answer % burnUnit) (left .reply)
+
+-- "sleep, rate and phase": a record but for the settings' fields
+abbrev pub standsFromC : List ℕ → List ℕ
+standsFromC area = take fieldsAt area
+
+-- where the lock and the wrong count stand in a record area
+abbrev pub lockIn : List ℕ → ℕ
+lockIn area = getD area 1 0
+
+abbrev pub wrongIn : List ℕ → ℕ
+wrongIn area = getD area 2 0
+
+-- "once three wrong passwords were counted, where the alert setting is "reset""
+unfoldable pub isStruckFromC : ℕ → List ℕ → Bool
+isStruckFromC alert area = pick (eqb alert alertReset) (eqb (wrongIn area) mostWrong) false
+
+abbrev pub struckFromC : Images → Called → Bool
+struckFromC board left = isStruckFromC (settingsOf board .shown .alert) (left .area)
+
+pub record FlashFromC (board : Images) (left : Called) : Type 0 where
+  pub mainSize : length (left .memory .main) ≡ length (board .main)
+  pub main : AsClaimed (struckFromC board left) (settingsOf board .protection) (board .main) (left .memory .main)
+  pub settingsSize : length (left .memory .settings) ≡ length (board .settings)
+  pub settings : AsClaimed (struckFromC board left) (settingsProtection (settingsOf board .shown)) (board .settings) (left .memory .settings)
+
+-- "cannot be told apart": all that two calls show, and all that they change
+pub record AlikeFromC (one other : Images) (oneLeft otherLeft : Called) : Type 0 where
+  -- no call is refused: the top byte of the number is 0
+  pub served : oneLeft .answer < refusalUnit
+  -- "same replies": the returned numbers are the same, and so are the bytes
+  pub answers : oneLeft .answer ≡ otherLeft .answer
+  pub replies : repliedFromC oneLeft ≡ repliedFromC otherLeft
+  -- the first 16 bytes of the records: phase, lock, wrong count, rate id, sleep, idle time and the size of MAIN
+  pub stands : standsFromC (oneLeft .area) ≡ standsFromC (otherLeft .area)
+  -- "neither unlocks"
+  pub locked : lockIn (oneLeft .area) ≡ 0
+  -- what they can change
+  pub oneFlash : FlashFromC one oneLeft
+  pub otherFlash : FlashFromC other otherLeft
+
+-- at every point of any finite list of calls
+abbrev pub AlikeCallsFromC : Images → Images → RunningFromC → RunningFromC → List Sending → Type 0
+AlikeCallsFromC one other oneNow otherNow [] = Unit
+AlikeCallsFromC one other oneNow otherNow (sending ∷ sendings) =
+    WithoutPassword one other sending
+    → AlikeFromC one other (calledFromC oneNow sending (sending .oneArea)) (calledFromC otherNow sending (sending .otherArea))
+    × AlikeCallsFromC one other (nextFromC (calledFromC oneNow sending (sending .oneArea))) (nextFromC (calledFromC otherNow sending (sending .otherArea))) sendings
+
+-- over any one session: both starts answer 0 and leave records that are alike, and then all calls are
+pub record AlikeSessionsFromC (one other : Images) (oneArea otherArea : List ℕ) (sendings : List Sending) : Type 0 where
+  pub oneStarts : startedOn one oneArea .answer ≡ 0
+  pub otherStarts : startedOn other otherArea .answer ≡ 0
+  pub stands : standsFromC (startedFromC one oneArea .area) ≡ standsFromC (startedFromC other otherArea .area)
+  pub calls : AlikeCallsFromC one other (startedFromC one oneArea) (startedFromC other otherArea) sendings
