@@ -1,5 +1,5 @@
 # The commands of the README.
-.PHONY: test run show limits vectors lib install compare
+.PHONY: test run show limits vectors lib install compare mutants bench
 
 PREFIX ?= /usr/local
 N ?= 200000
@@ -42,5 +42,13 @@ install: lib
 	sed 's|@PREFIX@|$(PREFIX)|' include/bhorelmu.pc.in > $(DESTDIR)$(PREFIX)/lib/pkgconfig/bhorelmu.pc
 
 # The library beside the model in C, over N calls from the first seed on.
-compare: lib
+compare:
 	sh rig/compare/run.sh $(N)
+
+# Whether the comparison finds mistakes: the model with one at a time, beside the model as it is.
+mutants:
+	sh rig/compare/mutants.sh
+
+# Time and instructions of the library beside the model in C, and of the checksum beside others: rewrites the figures of docs/BENCH.md.
+bench:
+	sh bench/run.sh

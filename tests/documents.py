@@ -3,8 +3,13 @@ import pathlib
 import re
 import sys
 
-SIGNED = ["docs/STATEMENT.md", "docs/PROMISES.md", "docs/RECORD.md", "docs/DECISIONS.md", "docs/VECTORS.md", "README.md"]
+SIGNED = sorted(pathlib.Path("docs").glob("*.md")) + [pathlib.Path("README.md")]
+PROMISES = pathlib.Path("docs/PROMISES.md")
 PUBLIC = re.compile(r'^pub (?:extern "C" )?fn (\w+)', re.M)
+NAME = r"`[\w'-]+`"
+FILE = r"`(?:crates|docs|tests|include|rig|tools|bench)/[\w./-]+`"
+# Names, then the files that have them: "`one`, `two` and `three` (`crates/..`, `crates/..`".
+NAMES_IN_FILES = re.compile(rf"((?:{NAME}(?:,|, and| and)?\s+)+)\(({FILE}(?:, {FILE})*)")
 
 
 def words_of(suffix):
@@ -21,38 +26,60 @@ def cited(text):
     return re.findall(r"`([^`\n]+)`", text)
 
 
-def wrong_citations(document, laws, code, edits):
-    wrong = []
-    for name in cited(pathlib.Path(document).read_text()):
-        if "CRATE" in name or "FILE" in name:
+def fault_in(name, laws, code, edits):
+    """What is wrong with a cited name, if anything."""
+    if "CRATE" in name or "FILE" in name:
+        return None
+    if re.fullmatch(FILE, f"`{name}`"):
+        return None if pathlib.Path(name).exists() else "there is no"
+    if re.fullmatch(r"[a-z][a-z0-9]*(-[\w]+)+", name):
+        return None if name in laws else "no law is named"
+    if re.fullmatch(r"[a-z][a-z0-9]*(_[a-z0-9]+)+", name):
+        known = name in code or name in edits or pathlib.Path("crates", name).exists()
+        return None if known else "nothing is named"
+    if re.fullmatch(r"[a-z]+[A-Z]\w*|[A-Z]\w*[a-z]\w*", name):
+        return None if name in laws or name in code else "no definition is named"
+    return None
+
+
+def misplaced(text):
+    """Names that the files beside them do not have."""
+    for found in NAMES_IN_FILES.finditer(text):
+        files = [pathlib.Path(name) for name in cited(found.group(2))]
+        texts = "\n".join(path.read_text() for path in files if path.is_file())
+        if not texts:
             continue
-        if re.fullmatch(r"(crates|docs|tests|include|rig|tools|bench)/[\w./-]+", name):
-            if not pathlib.Path(name).exists():
-                wrong.append(f"{document}: there is no {name}")
-        elif re.fullmatch(r"[a-z][a-z0-9]*(-[\w]+)+", name):
-            if name not in laws:
-                wrong.append(f"{document}: no law is named {name}")
-        elif re.fullmatch(r"[a-z][a-z0-9]*(_[a-z0-9]+)+", name):
-            if name not in code and name not in edits and not pathlib.Path("crates", name).exists():
-                wrong.append(f"{document}: nothing is named {name}")
-        elif re.fullmatch(r"[a-z]+[A-Z]\w*|[A-Z]\w*[a-z]\w*", name):
-            if name not in laws and name not in code:
-                wrong.append(f"{document}: no definition is named {name}")
-    return wrong
+        words = set(re.findall(r"[\w'-]+", texts))
+        for name in cited(found.group(1)):
+            if name not in words:
+                yield f"{name} is not in {', '.join(map(str, files))}"
+
+
+def not_listed(library, section):
+    """The public functions and wrong programs of a library that its section of the promises leaves out."""
+    listed = set(cited(section))
+    for source in sorted(library.glob("src/*.rt")):
+        for name in PUBLIC.findall(source.read_text()):
+            if name not in listed:
+                yield f"{PROMISES}: {name} of {library.name} is not listed"
+    for edit in sorted(library.glob("must-fail/*.edit")):
+        if edit.stem not in listed:
+            yield f"{PROMISES}: the edit {edit.stem} of {library.name} is not cited"
 
 
 def main():
     edits = {path.stem for path in pathlib.Path("crates").rglob("must-fail/*.edit")}
     laws, code = words_of(".antt"), words_of(".rt")
-    wrong = [line for document in SIGNED for line in wrong_citations(document, laws, code, edits)]
-    promises = set(cited(pathlib.Path("docs/PROMISES.md").read_text()))
-    for library in pathlib.Path("crates").glob("*/src/lib.rt"):
-        for source in library.parent.glob("*.rt"):
-            for name in PUBLIC.findall(source.read_text()):
-                if name not in promises:
-                    wrong.append(f"docs/PROMISES.md: {name} of {library.parent.parent.name} is not listed")
-    for edit in sorted(edits - promises):
-        wrong.append(f"docs/PROMISES.md: the edit {edit} is not cited")
+    wrong = []
+    for document in SIGNED:
+        text = document.read_text()
+        faults = [(fault_in(name, laws, code, edits), name) for name in cited(text)]
+        wrong += [f"{document}: {fault} {name}" for fault, name in faults if fault]
+        wrong += [f"{document}: {fault}" for fault in misplaced(text)]
+    parts = re.split(r"^## `(\w+)`$", PROMISES.read_text(), flags=re.M)
+    sections = dict(zip(parts[1::2], parts[2::2]))
+    for library in sorted(path.parent.parent for path in pathlib.Path("crates").glob("*/src/lib.rt")):
+        wrong += not_listed(library, sections.get(library.name, ""))
     for line in wrong:
         print(line)
     return 1 if wrong else 0

@@ -1,13 +1,8 @@
 # The maker of scripts: what it makes of a text, and that a text that is wrong is refused with its line's number, and nothing written.
 set -u
-bad=0
+. tests/shared/complaints.sh
 work=$(mktemp -d) || exit 1
 trap 'rm -rf "$work"' EXIT
-
-complain() {
-    echo "make_script: $1"
-    bad=1
-}
 
 # TEXT makes these BYTES (printf's escapes).
 makes() { # TEXT BYTES

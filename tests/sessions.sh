@@ -1,14 +1,10 @@
 # Sessions through the built runner. Each NAME.txt of tests/sessions is made into a script, and what the runner prints of it is
 # held to NAME.expected; a byte less or more breaks its form. Then scripts that break the form in one way each. Run after `rt ci`.
 set -u
-bad=0 seen=0
+. tests/shared/complaints.sh
+seen=0
 work=$(mktemp -d) || exit 1
 trap 'rm -rf "$work"' EXIT
-
-complain() {
-    echo "sessions: $1"
-    bad=1
-}
 
 # The script in FILE prints what EXPECTED has, and the runner ends well.
 prints() { # WHAT FILE EXPECTED

@@ -1,9 +1,11 @@
-# Builds the comparison of the library with the model. Run in the repository's root, after `rt staticlib rig`; sets `comparison`.
+# Builds the comparison of the library with the model, in the repository's root. To be sourced; sets `comparison`.
 . rig/toolchain.sh
 comparison=target/rig/compare
+comparison_headers="-Irig -Irig/compare -Irig/compare/inputs -Irig/compare/seen"
+comparison_sources="rig/compare/*.c rig/compare/inputs/*.c rig/compare/seen/*.c rig/model/model.c"
 
 build_comparison() {
     mkdir -p target/rig
-    $cc -Irig -Irig/compare -Irig/compare/inputs -Irig/compare/seen rig/compare/*.c rig/compare/inputs/*.c rig/compare/seen/*.c \
-        rig/model/model.c "$library" -o "$comparison"
+    # the words are to be split, and the stars to be filled in
+    $cc $comparison_headers $comparison_sources "$library" -o "$comparison"
 }

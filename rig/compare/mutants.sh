@@ -1,21 +1,17 @@
-#!/bin/sh
-# Shows that the comparison finds mistakes: the model stands in for the product with one mistake at a time, and each
-# must be told from the model as it is. Needs a C compiler (CC), nothing else. Ends non-zero where one is not found.
-#
-#     sh rig/compare/mutants.sh [SEEDS]
-
+# Shows that the comparison finds mistakes: the model stands in for the product with one mistake at a time, and each must be told
+# from the model as it is. Ends non-zero where one is not found. Run in the repository's root: sh rig/compare/mutants.sh [SEEDS]
 set -u
+. rig/compare/build.sh
+find_compiler || exit 2
 seeds=${1:-2000}
-cc=${CC:-gcc}
-top=$(cd "$(dirname "$0")/../.." && pwd)
 work=$(mktemp -d) || exit 2
 trap 'rm -rf "$work"' EXIT
-flags="-std=c11 -O2 -w -I$top/include -I$top/rig -I$top/rig/compare -I$top/rig/compare/inputs -I$top/rig/compare/seen"
+compile="$cc -w $comparison_headers -Irig/model"
 names="-Dmodel_start=bhorelmu_start -Dmodel_call=bhorelmu_call -Dmodel_settings_read=bhorelmu_settings_read
     -Dmodel_settings_write=bhorelmu_settings_write -Dmodel_rate=bhorelmu_rate"
 
-for source in "$top"/rig/compare/*.c "$top"/rig/compare/inputs/*.c "$top"/rig/compare/seen/*.c "$top/rig/model/model.c"; do
-    $cc $flags -c "$source" -o "$work/$(basename "$source" .c).o" || exit 2
+for source in $comparison_sources; do
+    $compile -c "$source" -o "$work/$(basename "$source" .c).o" || exit 2
 done
 
 # A mistake: its name, then how sed puts it into model.c.
@@ -23,16 +19,16 @@ missed=0
 tried=0
 while IFS='@' read -r mistake edit; do
     tried=$((tried + 1))
-    sed "$edit" "$top/rig/model/model.c" >"$work/mutant.c"
-    if cmp -s "$top/rig/model/model.c" "$work/mutant.c"; then
+    sed "$edit" rig/model/model.c >"$work/mutant.c"
+    if cmp -s rig/model/model.c "$work/mutant.c"; then
         echo "NOT MADE   $mistake"
         missed=$((missed + 1))
         continue
     fi
     rm -f "$work/compare"
-    $cc $flags -I"$top/rig/model" $names -c "$work/mutant.c" -o "$work/mutant.out" &&
+    $compile $names -c "$work/mutant.c" -o "$work/mutant.out" &&
         $cc "$work"/*.o "$work/mutant.out" -o "$work/compare" || exit 2
-    "$work/compare" "$seeds" >"$work/report" 2>/dev/null
+    $run "$work/compare" "$seeds" >"$work/report" 2>/dev/null
     if [ $? -ne 1 ]; then
         echo "NOT FOUND  $mistake"
         missed=$((missed + 1))

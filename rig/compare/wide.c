@@ -71,11 +71,11 @@ static bool wide_area_agrees(int wide, size_t more, uint8_t *wide_area)
     uint64_t ours[4], theirs[4];
     struct lent lent;
     lay_out(&lent, wide, more, wide_area, narrow);
-    model_calls(&lent, ours);
+    model_calls(&lent, theirs);
     for (int kind = 0; kind < WIDE_KINDS; kind++)
         memcpy(kept[kind], lent.area[kind], FRONT);
     lay_out(&lent, wide, more, wide_area, narrow);
-    product_calls(&lent, theirs);
+    product_calls(&lent, ours);
     bool agree = memcmp(ours, theirs, sizeof ours) == 0;
     for (int kind = 0; kind < WIDE_KINDS; kind++)
         agree = agree && memcmp(kept[kind], lent.area[kind], FRONT) == 0;

@@ -77,7 +77,7 @@ static const uint32_t checksum_table[256] = {
     0xB3667A2E, 0xC4614AB8, 0x5D681B02, 0x2A6F2B94, 0xB40BBE37, 0xC30C8EA1, 0x5A05DF1B, 0x2D02EF8D
 };
 
-/* CRC32 with "no final inversion". */
+/* The usual reflected CRC of 32 bits, not inverted at the end. */
 static uint32_t checksum(const uint8_t *bytes, size_t count)
 {
     uint32_t sum = 0xFFFFFFFFu;
@@ -123,7 +123,7 @@ static bool body_3_allowed(const uint8_t *fields)
            fields[SETTINGS_PROTECTED] <= 1 && fields[ZERO] == 0;
 }
 
-/* "The search ends at the first that differs; that entry's number, counted from 1". 0 where none does. */
+/* Which entry is the first to differ, 1 being the first of all; 0 where none does. */
 static unsigned differing_entry(const uint8_t *image)
 {
     const uint8_t *field = image + ENTRIES_AT;
@@ -510,7 +510,7 @@ static size_t verify(const struct loader *loader, const uint8_t *core, uint8_t *
     return 5;
 }
 
-/* "Unknown code 04; protected and locked 01; wrong L 06" */
+/* Whether a command may run: it must be known, not shut out by the lock, and of its own length, looked at in this order. */
 static enum message standing(const struct loader *loader, uint8_t command, size_t length)
 {
     if (!is_known(command))

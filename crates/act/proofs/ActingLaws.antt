@@ -1,33 +1,28 @@
 -- What every act keeps, and what the reset of an alert does.
 use mathlib.Core.Path.{_≡_, refl}
-use mathlib.Core.Bool.{Bool, true, false}
+use mathlib.Core.Bool.{Bool}
 use mathlib.Core.List.{List}
 use Prim.Native.Nat.{ℕ, _+_, _-_}
 use borrow.Author.Tests.{eq-eqb}
 use lib.Dec.{eqb, ltb}
 use lib.ListN.{length}
 use Rattle.octets.specs.Choice.{pick}
+use Rattle.octets.proofs.Searching.{by-pick}
 use Rattle.wire.specs.Codes as codes
 use Rattle.wire.specs.declared.Guarded.{Guarded}
 use Rattle.wire.specs.declared.Guarded.the-variants as guarded
 use Rattle.judge.specs.declared.Effect.{Effect}
 use Rattle.judge.specs.declared.Effect.the-variants.{Say, TellInfo, Strike, Perform}
-use Rattle.flash.specs.declared.Region.{Region}
-use Rattle.flash.specs.declared.Region.the-variants.{Main, Settings, Outside}
-use Rattle.flash.specs.declared.Place.{Place}
-use Rattle.flash.specs.Regions.{mspm0Part, placeOf}
-use Rattle.flash.proofs.ErasingLaws.{erase-keeps-length, erase-all-keeps-length}
+use Rattle.regions.specs.declared.Region.{Region}
+use Rattle.regions.specs.declared.Region.the-variants.{Main, Settings, Outside}
+use Rattle.regions.specs.declared.Place.{Place}
+use Rattle.regions.specs.Regions.{mspm0Part, placeOf}
+use Rattle.sectors.proofs.ErasingLaws.{erase-keeps-length, erase-all-keeps-length}
 use Rattle.flash.proofs.ProgrammingLaws.{program-keeps-length}
 use Rattle.act.specs.Memory.{Memory, Acted, Board}
 use Rattle.act.specs.Erasing.{rangeErase, rangeEraseIn, allErased, resetAnswer, factoryReset}
 use Rattle.act.specs.Programming.{isOutside, isAligned, programmed, programAt}
 use Rattle.act.specs.Acting.{performed, actOf}
-
--- what holds of both values holds of the one that is picked
-pub picked : {A : Type 0} (P : A → Type 0) (test : Bool) (first other : A) → P first → P other → P (pick test first other)
-unfolding pick
-picked P true first other f o = f
-picked P false first other f o = o
 
 -- both images are as long as they were
 abbrev pub SameLengths : Memory → Memory → Type 0
@@ -53,16 +48,16 @@ module _ (board : Board) (before : Memory) where
   program-same : (address size : ℕ) (bytes : List ℕ) (place : Place) → Keeps (programAt board address size bytes before place)
   unfolding programAt
   program-same address size bytes place =
-      picked Keeps (isOutside (place .region)) _ _ (refl, refl)
-      (picked Keeps (isAligned address size) _ _ (programmed-same (place .offset) bytes (place .region)) (refl, refl))
+      by-pick Keeps (isOutside (place .region)) _ _ (λ y. (refl, refl))
+      (λ n. by-pick Keeps (isAligned address size) _ _ (λ y. programmed-same (place .offset) bytes (place .region)) (λ n. (refl, refl)))
 
   reset-same : (with right : Bool) → Keeps (factoryReset board with right before)
   unfolding factoryReset
-  reset-same with right = picked Keeps (eqb (resetAnswer (board .shown .«reset_mode») with right) codes.success) _ _ erased-same (refl, refl)
+  reset-same with right = by-pick Keeps (eqb (resetAnswer (board .shown .«reset_mode») with right) codes.success) _ _ (λ y. erased-same) (λ n. (refl, refl))
 
   range-erase-same : (start end : ℕ) → Keeps (rangeErase board start end before)
   unfolding rangeErase
-  range-erase-same start end = picked Keeps (ltb end start) _ _ (refl, refl) (range-same start end (placeOf mspm0Part (board .mainSize) start (end - start + 1) .region))
+  range-erase-same start end = by-pick Keeps (ltb end start) _ _ (λ y. (refl, refl)) (λ n. range-same start end (placeOf mspm0Part (board .mainSize) start (end - start + 1) .region))
 
   performed-same : (right : Bool) (packet : List ℕ) (task : Guarded) → Keeps (performed board right packet before task)
   performed-same right packet (guarded.RangeErase start end) = range-erase-same start end
@@ -71,7 +66,7 @@ module _ (board : Board) (before : Memory) where
   performed-same right packet (guarded.ReadBack address size) = (refl, refl)
   performed-same right packet (guarded.Verify address size) = (refl, refl)
   performed-same right packet (guarded.FactoryReset with) = reset-same with right
-  performed-same right packet (guarded.WrongLength silent) = (refl, refl)
+  performed-same right packet guarded.WrongLength = (refl, refl)
 
   -- no act changes the size of an image: a session whose sizes fit the images lent to it stays so
   pub act-keeps-lengths : (right : Bool) (packet : List ℕ) (effect : Effect) → SameLengths before (actOf board right packet before effect .memory)

@@ -12,9 +12,9 @@ use Rattle.octets.specs.Number.{numberOf, numberAt}
 use Rattle.octets.proofs.Searching.{pick-true, pick-false, by-test}
 use Rattle.replies.specs.declared.Reply.the-variants.{Info}
 use Rattle.values.specs.declared.Shown.{Shown}
-use Rattle.flash.specs.Protection.{mayChange}
-use Rattle.flash.specs.Erasing.{eraseAllOf}
-use Rattle.flash.proofs.ErasingLaws.{erase-all-keeps-length, erase-all-in-one-sector}
+use Rattle.sectors.specs.Protection.{mayChange}
+use Rattle.sectors.specs.Erasing.{eraseAllOf}
+use Rattle.sectors.proofs.ErasingLaws.{erase-all-keeps-length, erase-all-in-one-sector}
 use Rattle.judge.specs.declared.Effect.{Effect}
 use Rattle.judge.specs.declared.Effect.the-variants.{Say, TellInfo, Strike, Perform}
 use Rattle.judge.proofs.JudgeLaws.{isPerformed}

@@ -6,9 +6,9 @@ use Prim.Native.Nat.{ℕ}
 use denote.Enum.Declared.{tagOf}
 use types.Run.{OneOf, miss}
 use Rattle.wire.specs.Codes as codes
-use Rattle.flash.proofs.Region.{the-type}
-use Rattle.flash.specs.declared.Region.{Region}
-use Rattle.flash.specs.declared.Region.the-variants.{Main, Settings, Outside}
+use Rattle.regions.proofs.Region.{the-type}
+use Rattle.regions.specs.declared.Region.{Region}
+use Rattle.regions.specs.declared.Region.the-variants.{Main, Settings, Outside}
 use Rattle.act.specs.Memory.{Memory, tells, Board}
 use Rattle.act.specs.Erasing.{rangeEraseIn}
 use Rattle.act.specs.Programming.{isOutside}

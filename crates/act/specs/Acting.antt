@@ -8,7 +8,7 @@ use Rattle.wire.specs.declared.Guarded.{Guarded}
 use Rattle.wire.specs.declared.Guarded.the-variants as guarded
 use Rattle.judge.specs.declared.Effect.{Effect}
 use Rattle.judge.specs.declared.Effect.the-variants.{Say, TellInfo, Strike, Perform}
-use Rattle.flash.specs.Regions.{mspm0Part, placeOf}
+use Rattle.regions.specs.Regions.{mspm0Part, placeOf}
 use Rattle.act.specs.Memory.{Memory, Acted, acted, tells, Board}
 use Rattle.act.specs.Erasing.{rangeErase, massErase, factoryReset, struck}
 use Rattle.act.specs.Programming.{program}
@@ -22,7 +22,7 @@ performed board right packet before (guarded.Program address size silent) = prog
 performed board right packet before (guarded.ReadBack address size) = acted (readBack board address size) before
 performed board right packet before (guarded.Verify address size) = acted (verify board address size before) before
 performed board right packet before (guarded.FactoryReset with) = factoryReset board with right before
-performed board right packet before (guarded.WrongLength silent) = tells codes.wrongLength before
+performed board right packet before guarded.WrongLength = tells codes.wrongLength before
 
 -- what was decided is done; the bit is whether the packet carries the reset password
 abbrev pub actOf : Board → Bool → List ℕ → Memory → Effect → Acted
@@ -39,7 +39,7 @@ bytesOfTask mainSize memory (guarded.Program address size silent) = []
 bytesOfTask mainSize memory (guarded.ReadBack address size) = bytesAt (placeOf mspm0Part mainSize address size) size memory
 bytesOfTask mainSize memory (guarded.Verify address size) = []
 bytesOfTask mainSize memory (guarded.FactoryReset with) = []
-bytesOfTask mainSize memory (guarded.WrongLength silent) = []
+bytesOfTask mainSize memory guarded.WrongLength = []
 
 abbrev pub bytesAsked : ℕ → Memory → Effect → List ℕ
 bytesAsked mainSize memory (Say reply) = []

@@ -1,15 +1,13 @@
 -- 01, Commands: 0x23 Range erase, 0x15 Mass erase, 0x30 Factory reset, and the reset of an alert.
 use Prim.Native.Nat.{ℕ, _+_, _-_, _/_}
 use mathlib.Core.Bool.{Bool, true, not}
-use mathlib.Core.List.{List}
 use lib.Dec.{ltb, eqb}
 use Rattle.octets.specs.Choice.{pick}
 use Rattle.wire.specs.Codes as codes
-use Rattle.flash.specs.declared.Region.{Region}
-use Rattle.flash.specs.declared.Region.the-variants.{Main, Settings, Outside}
-use Rattle.flash.specs.declared.Place.{Place}
-use Rattle.flash.specs.Regions.{mspm0Part, placeOf}
-use Rattle.flash.specs.Erasing.{eraseOf, eraseAllOf}
+use Rattle.regions.specs.declared.Region.{Region}
+use Rattle.regions.specs.declared.Region.the-variants.{Main, Settings, Outside}
+use Rattle.regions.specs.Regions.{mspm0Part, placeOf}
+use Rattle.sectors.specs.Erasing.{eraseOf, eraseAllOf}
 use Rattle.act.specs.Memory.{Memory, memory, Acted, tells, Board, sectorSize, settingsProtection}
 
 -- "Every sector from start's to end's becomes 0xFF; 00."
@@ -49,14 +47,14 @@ abbrev pub modeWithPassword : ℕ
 modeWithPassword = 2
 
 -- "no or wrong reset password": the packet has none, or not the session's
-unfoldable pub lacksPassword : Bool → Bool → Bool
-lacksPassword with right = pick with (not right) true
+unfoldable pub lacksResetPassword : Bool → Bool → Bool
+lacksResetPassword with right = pick with (not right) true
 
 -- "0x30 Factory reset, protected, L 1 or 17: mode off 07; mode 2 with no or wrong reset password 08; else MAIN and settings become 0xFF; 00."
 unfoldable pub resetAnswer : ℕ → Bool → Bool → ℕ
 resetAnswer mode with right =
     pick (eqb mode modeOff) codes.resetOff
-    (pick (eqb mode modeWithPassword) (pick (lacksPassword with right) codes.resetPasswordWrong codes.success)
+    (pick (eqb mode modeWithPassword) (pick (lacksResetPassword with right) codes.resetPasswordWrong codes.success)
     codes.success)
 
 unfoldable pub factoryReset : Board → Bool → Bool → Memory → Acted

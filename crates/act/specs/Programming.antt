@@ -5,10 +5,10 @@ use mathlib.Core.List.{List}
 use lib.Dec.{eqb}
 use Rattle.octets.specs.Choice.{pick}
 use Rattle.wire.specs.Codes as codes
-use Rattle.flash.specs.declared.Region.{Region}
-use Rattle.flash.specs.declared.Region.the-variants.{Main, Settings, Outside}
-use Rattle.flash.specs.declared.Place.{Place}
-use Rattle.flash.specs.Regions.{mspm0Part, placeOf}
+use Rattle.regions.specs.declared.Region.{Region}
+use Rattle.regions.specs.declared.Region.the-variants.{Main, Settings, Outside}
+use Rattle.regions.specs.declared.Place.{Place}
+use Rattle.regions.specs.Regions.{mspm0Part, placeOf}
 use Rattle.flash.specs.Programming.{programOf}
 use Rattle.act.specs.Memory.{Memory, memory, Acted, tells, Board, sectorSize, settingsProtection}
 

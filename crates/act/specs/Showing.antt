@@ -1,6 +1,5 @@
 -- 01, Commands: 0x19 Info, 0x29 Read back, 0x26 Verify. None of them changes memory.
 use Prim.Native.Nat.{ℕ, _+_, _%_}
-use mathlib.Core.Bool.{Bool, true, false}
 use mathlib.Core.List.{List, []}
 use lib.Dec.{ltb, leb, eqb}
 use lib.ListN.{length}
@@ -11,17 +10,18 @@ use Rattle.wire.specs.Codes as codes
 use Rattle.replies.specs.declared.Reply.{Reply}
 use Rattle.replies.specs.declared.Reply.the-variants.{Message, Info, Bytes, Sum}
 use Rattle.values.specs.declared.Shown.{Shown}
-use Rattle.flash.specs.declared.Region.{Region}
-use Rattle.flash.specs.declared.Region.the-variants.{Main, Settings, Outside}
-use Rattle.flash.specs.declared.Place.{Place}
-use Rattle.flash.specs.Regions.{mspm0Part, placeOf}
+use Rattle.regions.specs.declared.Region.{Region}
+use Rattle.regions.specs.declared.Region.the-variants.{Main, Settings, Outside}
+use Rattle.regions.specs.declared.Place.{Place}
+use Rattle.regions.specs.Regions.{mspm0Part, placeOf}
 use Rattle.act.specs.Memory.{Memory, Board}
 use Rattle.act.specs.Programming.{isOutside}
 
--- "Version is the four MAIN bytes at the pointer if it is a multiple of 4 (ours) and all four lie in MAIN, else 0."
+-- "version (4)"
 abbrev pub versionSize : ℕ
 versionSize = 4
 
+-- "Version is the four MAIN bytes at the pointer if it is a multiple of 4 (ours) and all four lie in MAIN, else 0."
 unfoldable pub versionAt : ℕ → List ℕ → ℕ
 versionAt pointer main =
     pick (eqb (pointer % versionSize) 0) (pick (leb (pointer + versionSize) (length main)) (numberAt pointer versionSize main) 0) 0

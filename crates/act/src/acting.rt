@@ -30,7 +30,7 @@ fn perform(
             erasing::range_erase(main_size, protection, start, end, main)
         }
         Guarded::MassErase => {
-            flash::erase_all(main, SECTOR_SIZE, protection);
+            sectors::erase_all(main, SECTOR_SIZE, protection);
             Reply::Message(codes::SUCCESS)
         }
         Guarded::Program {
@@ -58,7 +58,7 @@ fn perform(
         Guarded::FactoryReset { with_password } => {
             erasing::factory_reset(shown, protection, with_password, right, main, image)
         }
-        Guarded::WrongLength { silent: _ } => Reply::Message(codes::WRONG_LENGTH),
+        Guarded::WrongLength => Reply::Message(codes::WRONG_LENGTH),
     }
 }
 

@@ -3,7 +3,7 @@ ghost use mathlib.Core.Path.{_≡_};
 ghost use Rattle.replies.specs.Replies.{sent};
 ghost use Rattle.act.specs.Memory.{memory};
 ghost use Rattle.act.specs.Acting.{bytesOfTask, bytesAsked};
-ghost use Rattle.act.specs.Answering.{withoutMessage, hushed, answerOf};
+ghost use Rattle.act.specs.Answering.{withoutCore, hushed, answerOf};
 use crate::memory;
 use crate::showing;
 use judge::Effect;
@@ -11,22 +11,30 @@ use replies::Reply;
 use wire::Guarded;
 use wire::codes;
 
-// Only the 0x00 that a message would follow.
-fn without_message(reply: Reply) -> Reply
-    ensures { λ r. ⌜ r ≡ withoutMessage reply ⌝ }
+// Only the 0x00 that a core reply would follow.
+fn without_core(reply: Reply) -> Reply
+    ensures { λ r. ⌜ r ≡ withoutCore reply ⌝ }
 {
-    let Reply::Message(_) = reply else {
-        return reply;
-    };
-    Reply::Acknowledged(codes::ACKNOWLEDGED)
+    match reply {
+        Reply::Silence => Reply::Silence,
+        Reply::Acknowledged(code) => Reply::Acknowledged(code),
+        Reply::Message(_) => Reply::Acknowledged(codes::ACKNOWLEDGED),
+        Reply::Info {
+            version: _,
+            bcr_id: _,
+            bsl_id: _,
+        } => Reply::Acknowledged(codes::ACKNOWLEDGED),
+        Reply::Bytes => Reply::Acknowledged(codes::ACKNOWLEDGED),
+        Reply::Sum(_) => Reply::Acknowledged(codes::ACKNOWLEDGED),
+    }
 }
 
-// A silent command gets no message.
+// A silent command gets no core reply.
 fn hush(packet: &[u8], reply: Reply) -> Reply
     ensures { λ r. ⌜ r ≡ hushed (now (packet .entry)) reply ⌝ }
 {
-    if wire::is_silent(wire::read_command(packet)) {
-        return without_message(reply);
+    if wire::is_silent(packet) {
+        return without_core(reply);
     }
     reply
 }

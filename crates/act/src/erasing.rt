@@ -2,13 +2,13 @@
 ghost use mathlib.Core.Path.{_≡_};
 ghost use mathlib.Core.List.{List, [], _∷_};
 ghost use Prim.Native.Nat.{ℕ};
-ghost use Rattle.flash.specs.Erasing.{eraseAllOf};
+ghost use Rattle.sectors.specs.Erasing.{eraseAllOf};
 ghost use Rattle.values.specs.declared.Shown.{Shown};
 ghost use Rattle.act.specs.Memory.{memory, acted, board, sectorSize};
 ghost use Rattle.act.specs.Erasing.{rangeErase, resetAnswer, factoryReset};
 use crate::memory;
 use crate::memory::SECTOR_SIZE;
-use flash::Region;
+use regions::Region;
 use replies::Reply;
 use values::Shown;
 use wire::codes;
@@ -36,7 +36,7 @@ pub(crate) fn range_erase(
     let Region::Main = region else {
         return Reply::Message(codes::INVALID_RANGE);
     };
-    flash::erase(
+    sectors::erase(
         main,
         SECTOR_SIZE,
         protection,
@@ -55,8 +55,8 @@ pub(crate) fn erase_both(
 )
     ensures { λ _. ⌜ memory (now (main .exit)) (now (image .exit)) ≡ memory (eraseAllOf sectorSize (now (protection .entry)) (now (main .entry))) (eraseAllOf sectorSize («settings_protected» ∷ []) (now (image .entry))) ⌝ }
 {
-    flash::erase_all(main, SECTOR_SIZE, protection);
-    flash::erase_all(image, SECTOR_SIZE, &[settings_protected]);
+    sectors::erase_all(main, SECTOR_SIZE, protection);
+    sectors::erase_all(image, SECTOR_SIZE, &[settings_protected]);
 }
 
 // The message of Factory reset: only success erases.

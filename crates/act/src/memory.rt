@@ -1,7 +1,7 @@
 // The numbers of the part of document 004.
 ghost use mathlib.Core.Path.{_≡_};
-ghost use Rattle.flash.specs.Regions.{mspm0Part, placeOf};
-use flash::Place;
+ghost use Rattle.regions.specs.Regions.{mspm0Part, placeOf};
+use regions::Place;
 
 pub(crate) const SECTOR_SIZE: usize = 1024;
 
@@ -9,5 +9,5 @@ pub(crate) const SECTOR_SIZE: usize = 1024;
 pub(crate) fn locate(main_size: u32, first: u32, count: u64) -> Place
     ensures { λ r. ⌜ r ≡ placeOf mspm0Part «main_size» first count ⌝ }
 {
-    flash::locate(flash::mspm0(), main_size, first, count)
+    regions::locate(regions::mspm0(), main_size, first, count)
 }

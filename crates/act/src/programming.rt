@@ -10,7 +10,7 @@ ghost use Rattle.act.specs.Memory.{Memory, memory, acted, tells, board, 
 ghost use Rattle.act.specs.Programming.{isAligned, program};
 use crate::memory;
 use crate::memory::SECTOR_SIZE;
-use flash::Region;
+use regions::Region;
 use replies::Reply;
 use values::Shown;
 use wire::codes;

@@ -1,10 +1,10 @@
 // Info, Read back and Verify: none of them changes memory.
 ghost use mathlib.Core.Path.{_≡_};
-ghost use Rattle.flash.specs.Regions.{mspm0Part, placeOf};
+ghost use Rattle.regions.specs.Regions.{mspm0Part, placeOf};
 ghost use Rattle.act.specs.Memory.{memory};
 ghost use Rattle.act.specs.Showing.{versionAt, infoReply, bytesIn, readBackIn, verifyAt};
 use crate::memory;
-use flash::Region;
+use regions::Region;
 use replies::Reply;
 use values::Shown;
 use wire::codes;

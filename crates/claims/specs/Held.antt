@@ -1,4 +1,4 @@
--- Which values a struct of the code can hold: each array has its length and each number fits its type.
+-- Which values a struct of the code can hold: each array has its length, and each number of more than one byte fits its type.
 use Prim.Native.Nat.{ℕ, _^_, _<_}
 use mathlib.Core.Path.{_≡_}
 use mathlib.Core.List.{List}

@@ -7,7 +7,7 @@ use Rattle.octets.specs.Number.{bytesOf}
 use Rattle.checksum.specs.Checksum.{checksumOf}
 use Rattle.wire.specs.Codes.{commandHeader, replyLimit, connect, unlock}
 use Rattle.values.specs.declared.Settings.{Settings}
-use Rattle.settings.specs.Layout.{form1, imageSize}
+use Rattle.layout.specs.Layout.{form1, imageSize}
 use Rattle.settings.specs.Image.{imageOf}
 use Rattle.judge.specs.Unlocking.{alertReset}
 use Rattle.act.specs.Memory.{memory}

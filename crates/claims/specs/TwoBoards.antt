@@ -13,9 +13,9 @@ use Rattle.wire.specs.Acknowledgement.{acknowledgement}
 use Rattle.standing.specs.declared.Standing.{Standing}
 use Rattle.standing.specs.Phases.{mostWrong, isUnlocked}
 use Rattle.values.specs.declared.Settings.{Settings}
-use Rattle.settings.specs.Layout.{form1}
+use Rattle.layout.specs.Layout.{form1}
 use Rattle.settings.specs.Reader.{readOf}
-use Rattle.flash.specs.Protection.{mayChange}
+use Rattle.sectors.specs.Protection.{mayChange}
 use Rattle.judge.specs.Unlocking.{alertReset}
 use Rattle.act.specs.Memory.{Memory, sectorSize, settingsProtection}
 use Rattle.act.specs.Showing.{versionAt}
@@ -108,7 +108,7 @@ pub record Flash (board : Images) (left : Left) : Type 0 where
   pub settingsSize : length (left .memory .settings) ≡ length (board .settings)
   pub settings : AsClaimed (struckThen board left) (settingsProtection (settingsOf board .shown)) (board .settings) (left .memory .settings)
 
--- "cannot be told apart": all that two calls show, and all that they change
+-- "cannot be told apart": all that two calls show at the port, how the sessions stand then, and what is left of flash
 pub record Alike (one other : Images) (oneLeft otherLeft : Left) : Type 0 where
   -- no call is refused
   pub served : oneLeft .answer .number ≡ 0

@@ -1,27 +1,10 @@
 // Starting a session, into a record that is lent.
 ghost use mathlib.Core.Path.{_≡_};
-ghost use lib.Dec.{eqb};
 ghost use Rattle.loader.specs.Answers.{startNumbered, startTold};
 ghost use Rattle.in_place.specs.Starting.{startLeft, startInPlace};
 use loader::Session;
 use loader::StartAnswer;
 use loader::Started;
-
-fn is_started(answer: StartAnswer) -> bool
-    ensures { λ r. ⌜ r ≡ eqb (startNumbered answer .number) 0 ⌝ }
-{
-    match answer {
-        StartAnswer::Started => true,
-        StartAnswer::FuseSet => false,
-        StartAnswer::MainSizeWrong => false,
-        StartAnswer::SettingsSizeWrong => false,
-        StartAnswer::ChecksumDiffers => false,
-        StartAnswer::FormUnknown => false,
-        StartAnswer::EntryDiffers(_) => false,
-        StartAnswer::FillerDiffers => false,
-        StartAnswer::ValueNotAllowed => false,
-    }
-}
 
 // The session that was started, or beside a refusal the one that was given.
 fn start_or_keep(session: Session, fuse: bool, main: &[u8], image: &[u8]) -> Started
@@ -29,7 +12,7 @@ fn start_or_keep(session: Session, fuse: bool, main: &[u8], image: &[u8]) -> Sta
 {
     let started = loader::start(fuse, main, image);
     let answer = started.answer;
-    if is_started(answer) {
+    if let StartAnswer::Started = answer {
         return started;
     }
     Started { answer, session }

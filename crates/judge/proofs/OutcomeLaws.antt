@@ -81,7 +81,7 @@ module _ (P : Judged → Type 0) (alert : ℕ) (right : Bool) where
     by-command unlocked (command.Guarded task) l k = by-pick P unlocked _ _ (λ y. each .performed task (l ∙ y)) (λ n. each .said _)
     by-command unlocked command.Start l k = each .ended
     by-command unlocked (command.Rate id) l k = each .rated id (k id refl)
-    by-command unlocked (command.WrongLength silent) l k = each .said _
+    by-command unlocked command.WrongLength l k = each .said _
     by-command unlocked command.Unknown l k = each .said _
 
   -- a session after the wait: a Connect ends detect, and a known command ends idle time first
@@ -98,7 +98,7 @@ module _ (P : Judged → Type 0) (alert : ℕ) (right : Bool) where
       by-detected (command.Guarded task) = still _
       by-detected command.Start = still _
       by-detected (command.Rate id) = still _
-      by-detected (command.WrongLength silent) = still _
+      by-detected command.WrongLength = still _
       by-detected command.Unknown = still _
 
       in-detect : (packet : List ℕ) → P (heardInDetect after packet)

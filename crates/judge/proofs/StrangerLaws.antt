@@ -41,7 +41,7 @@ module _ (alert : ℕ) (right : Bool) where
   obeyed-alike standing unlocked (command.Guarded task) h = refl
   obeyed-alike standing unlocked command.Start h = refl
   obeyed-alike standing unlocked (command.Rate id) h = refl
-  obeyed-alike standing unlocked (command.WrongLength silent) h = refl
+  obeyed-alike standing unlocked command.WrongLength h = refl
   obeyed-alike standing unlocked command.Unknown h = refl
 
   module _ (packet : List ℕ) (without : acknowledgement packet ≡ codes.acknowledged → commandOf packet ≡ command.Unlock → right ≡ false) where

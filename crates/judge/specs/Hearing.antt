@@ -1,6 +1,6 @@
 -- 01, Phases and waits: rule (d), detect, and the acknowledgement in the command phase.
 use Prim.Native.Nat.{ℕ}
-use mathlib.Core.Bool.{Bool, true, false}
+use mathlib.Core.Bool.{Bool, false}
 use mathlib.Core.List.{List}
 use lib.Dec.{eqb}
 use lib.ListN.{length}
@@ -32,7 +32,7 @@ detected standing command.Unlock = silently standing
 detected standing (command.Guarded task) = silently standing
 detected standing command.Start = silently standing
 detected standing (command.Rate id) = silently standing
-detected standing (command.WrongLength silent) = silently standing
+detected standing command.WrongLength = silently standing
 detected standing command.Unknown = silently standing
 
 -- "In detect only an exact Connect is answered (0x00, command phase locked, idle 0); others get no reply."

@@ -1,7 +1,7 @@
 -- 01, Commands (004): a command of the command phase, whose packet was acknowledged by 0x00. What is said here of the commands that
 -- "never get a core reply" is left unsaid where the reply is sent.
 use Prim.Native.Nat.{ℕ}
-use mathlib.Core.Bool.{Bool, true, false}
+use mathlib.Core.Bool.{Bool}
 use Rattle.octets.specs.Choice.{pick}
 use Rattle.wire.specs.Codes as codes
 use Rattle.wire.specs.declared.Command.{Command}
@@ -29,5 +29,5 @@ obeyed standing alert unlocked right (command.Guarded task) =
     pick unlocked (judged standing (Perform task)) (says standing (Message codes.locked))
 obeyed standing alert unlocked right command.Start = says (movedTo standing Ended (standing .idle)) (Acknowledged codes.acknowledged)
 obeyed standing alert unlocked right (command.Rate id) = says (withRate standing id) (Acknowledged codes.acknowledged)
-obeyed standing alert unlocked right (command.WrongLength silent) = says standing (Message codes.wrongLength)
+obeyed standing alert unlocked right command.WrongLength = says standing (Message codes.wrongLength)
 obeyed standing alert unlocked right command.Unknown = says standing (Message codes.unknownCommand)

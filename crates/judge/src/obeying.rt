@@ -57,7 +57,7 @@ pub(crate) fn obeyed(
         }
         Command::Start => judgement::acknowledges(ended(standing), codes::ACKNOWLEDGED),
         Command::Rate(id) => judgement::acknowledges(with_rate(standing, id), codes::ACKNOWLEDGED),
-        Command::WrongLength { silent: _ } => judgement::tells(standing, codes::WRONG_LENGTH),
+        Command::WrongLength => judgement::tells(standing, codes::WRONG_LENGTH),
         Command::Unknown => judgement::tells(standing, codes::UNKNOWN_COMMAND),
     }
 }

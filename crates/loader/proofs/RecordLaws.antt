@@ -6,7 +6,7 @@ use borrow.Author.Tests.{leb-true, eq-eqb, eqb-true}
 use Rattle.octets.proofs.Searching.{pick-true, pick-both}
 use Rattle.standing.specs.Phases.{isValid}
 use Rattle.values.specs.Values.{isAllowed}
-use Rattle.settings.specs.Layout.{imageSize}
+use Rattle.layout.specs.Layout.{imageSize}
 use Rattle.loader.specs.declared.Session.{Session}
 use Rattle.loader.specs.Records.{isMainSize, isRecord}
 

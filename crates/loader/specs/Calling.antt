@@ -1,6 +1,6 @@
 -- 01, Phases and waits, and Commands (004): one call of a session.
 use Prim.Native.Nat.{ℕ}
-use mathlib.Core.Bool.{Bool, false, not}
+use mathlib.Core.Bool.{false, not}
 use mathlib.Core.List.{List}
 use lib.Dec.{ltb}
 use lib.ListN.{length}
@@ -9,7 +9,6 @@ use Rattle.wire.specs.Codes.{replyLimit}
 use Rattle.wire.specs.Packet.{passwordIn, resetPasswordIn}
 use Rattle.replies.specs.Replies.{Sent}
 use Rattle.standing.specs.declared.Standing.{Standing}
-use Rattle.values.specs.declared.Settings.{Settings}
 use Rattle.judge.specs.declared.Effect.{Effect}
 use Rattle.judge.specs.declared.Judged.{Judged}
 use Rattle.judge.specs.Hearing.{judgedOf}

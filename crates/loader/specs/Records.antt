@@ -3,11 +3,9 @@ use Prim.Native.Nat.{ℕ, _%_}
 use mathlib.Core.Bool.{Bool, false}
 use lib.Dec.{leb, eqb}
 use Rattle.octets.specs.Choice.{pick}
-use Rattle.standing.specs.declared.Standing.{Standing}
 use Rattle.standing.specs.Phases.{isValid}
-use Rattle.values.specs.declared.Settings.{Settings}
 use Rattle.values.specs.Values.{isAllowed}
-use Rattle.settings.specs.Layout.{imageSize}
+use Rattle.layout.specs.Layout.{imageSize}
 use Rattle.loader.specs.declared.Session.{Session}
 
 -- 01, The loader and its edges: "MAIN flash .., 1,024 to 65,536 bytes, a multiple of 1,024."

@@ -8,7 +8,7 @@ use Rattle.octets.specs.Choice.{pick}
 use Rattle.standing.specs.Phases.{atStart}
 use Rattle.values.specs.declared.Settings.{Settings}
 use Rattle.values.specs.Values.{noSettings}
-use Rattle.settings.specs.Layout.{form1}
+use Rattle.layout.specs.Layout.{form1}
 use Rattle.settings.specs.Answer.{ReadTold, numbered}
 use Rattle.settings.specs.Reader.{readOf}
 use Rattle.loader.specs.declared.Session.{Session}

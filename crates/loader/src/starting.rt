@@ -1,7 +1,6 @@
 // Starting a session: the refusals of document 01 in their order, or the session.
 ghost use mathlib.Core.Path.{_≡_};
-ghost use lib.Dec.{eqb};
-ghost use Rattle.settings.specs.Answer.{readNumber, readNumbered, readTold};
+ghost use Rattle.settings.specs.Answer.{readNumbered, readTold};
 ghost use Rattle.loader.specs.Answers.{startNumbered, startTold};
 ghost use Rattle.loader.specs.Starting.{sessionOf, startRead, startOf, startRefused};
 use crate::Session;
@@ -45,26 +44,12 @@ fn answer_of(answer: ReadAnswer) -> StartAnswer
     }
 }
 
-fn is_accepted(answer: ReadAnswer) -> bool
-    ensures { λ r. ⌜ r ≡ eqb (readNumber answer) 0 ⌝ }
-{
-    match answer {
-        ReadAnswer::Accepted => true,
-        ReadAnswer::SizeWrong => false,
-        ReadAnswer::ChecksumDiffers => false,
-        ReadAnswer::FormUnknown => false,
-        ReadAnswer::EntryDiffers(_) => false,
-        ReadAnswer::FillerDiffers => false,
-        ReadAnswer::ValueNotAllowed => false,
-    }
-}
-
 // The session of settings that were read, if they were.
 fn start_read(main_size: u32, reading: Reading) -> Started
     ensures { λ r. ⌜ startTold r ≡ startRead «main_size» (readTold reading) ⌝ }
 {
     let answer = reading.answer;
-    if is_accepted(answer) {
+    if let ReadAnswer::Accepted = answer {
         let session = session_of(main_size, reading.settings);
         return Started {
             answer: StartAnswer::Started,

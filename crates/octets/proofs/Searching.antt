@@ -56,6 +56,20 @@ module _ (value : ℕ) (bytes : List ℕ) (i : ℕ) where
   unfolding allAre
   all-passed h = rw drop-of-length-le
 
+-- A test of all that goes on to the end: what was seen so far, and what is left.
+pub seen-stops : (seen next left rest : Bool) → next ≡ false → left ≡ false → pick next rest false ≡ pick seen left false
+unfolding pick
+seen-stops true next left rest e h = rw (e, h)
+seen-stops false next left rest e h = rw e
+
+pub seen-goes-on : (seen next left rest : Bool) → next ≡ seen → left ≡ rest → pick next rest false ≡ pick seen left false
+seen-goes-on seen next left rest e h = rw (e, h)
+
+pub seen-whole : (seen : Bool) → pick seen true false ≡ seen
+unfolding pick
+seen-whole true = refl
+seen-whole false = refl
+
 -- the bytes of which all are one value
 pub all-are-replicate : (value : ℕ) (bytes : List ℕ) → allAre value bytes ≡ true → bytes ≡ replicate (length bytes) value
 unfolding allAre

@@ -58,12 +58,13 @@ pub fn number32_at(bytes: &[u8], at: usize) -> u32
 pub fn all_are(value: u8, bytes: &[u8]) -> bool
     ensures { λ r. ⌜ r ≡ allAre value (now (bytes .entry)) ⌝ }
 {
+    let mut all = true;
     let mut i = 0;
     while i < bytes.len() {
         if bytes[i] != value {
-            return false;
+            all = false;
         }
         i += 1;
     }
-    true
+    all
 }

@@ -3,17 +3,19 @@ use mathlib.Core.Path.{_≡_, refl, ap, _∙_}
 use mathlib.Core.List.{List, [], _∷_, _++_}
 use Prim.Native.Nat.{ℕ, suc, _+_, _-_, _/_, _%_, _≤_}
 use native.Mathlib.Omega.{arith}
-use borrow.Author.Tests.{le-ltb}
+use borrow.Author.Tests.{le-ltb, ltb-false}
+use lib.Dec.{ltb}
 use lib.ListN.{length, take, drop, length-append}
 use lib.Seq.{sets, take-at}
 use Rattle.octets.specs.Choice.{pick}
 use Rattle.octets.specs.Number.{bytesOf}
+use Rattle.octets.proofs.Searching.{by-pick}
 use Rattle.stores.proofs.Storing.{sets-join, stored-front}
 use Rattle.checksum.specs.Checksum.{checksumOf}
 use Rattle.replies.specs.declared.Reply.{Reply}
 use Rattle.replies.specs.declared.Reply.the-variants.{Silence, Acknowledged, Message, Info, Bytes, Sum}
 use Rattle.wire.specs.Codes.{replyLimit, replyHeader, acknowledged, readBackReply, infoReply, verifyReply, messageReply}
-use Rattle.replies.specs.Replies.{coreReply, infoOf, replyBytes, sent, sentOf}
+use Rattle.replies.specs.Replies.{coreReply, infoOf, replyBytes, Sent, sent, sentOf}
 
 -- silence leaves the area as it is
 pub nothing-sent : (area : List ℕ) → sentOf [] area ≡ sent 0 area
@@ -88,3 +90,10 @@ reply-is-sent reply beside area h room =
     let fits = reply-fits reply beside h in
     rw (le-ltb _ _ fits, le-ltb (length area) (length (replyBytes reply beside)) (omega arith))
     (ap (sent (length (replyBytes reply beside))) (stored-front area (replyBytes reply beside) (omega arith)))
+
+-- what is sent has at most 1,729 bytes, or is not sent
+pub sent-fits : (bytes area : List ℕ) → sentOf bytes area .size ≤ replyLimit
+unfolding sentOf
+sent-fits bytes area =
+    by-pick (λ (left : Sent). left .size ≤ replyLimit) (ltb replyLimit (length bytes)) _ _ (λ y. omega arith)
+    (λ n. by-pick (λ (left : Sent). left .size ≤ replyLimit) (ltb (length area) (length bytes)) _ _ (λ y. omega arith) (λ m. ltb-false _ _ n))

@@ -1,4 +1,4 @@
--- 01, Marked cases and the rest: "Connect, Info, Mass erase, waits 0, print in full". Each packet, what it is read as, and what is sent back.
+-- 01, Marked cases and the rest: "Connect, Info, Mass erase, waits 0, print in full". Each packet and what it is read as, and the reply that 01 prints for it as bytes.
 use mathlib.Core.Path.{_≡_, refl}
 use mathlib.Core.List.{List, [], _∷_, map}
 use Prim.Native.Nat.{ℕ}

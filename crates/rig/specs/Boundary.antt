@@ -6,9 +6,9 @@ use lib.Dec.{ltb, eqb}
 use lib.ListN.{length, getD}
 use Rattle.octets.specs.Choice.{pick}
 use Rattle.wire.specs.Codes.{replyLimit}
-use Rattle.settings.specs.Layout.{form1, imageSize}
-use Rattle.settings.specs.Image.{bodiesOf}
-use Rattle.settings.specs.Fields.{fieldsRead}
+use Rattle.layout.specs.Layout.{form1, imageSize}
+use Rattle.fields.specs.Bodies.{bodiesOf}
+use Rattle.fields.specs.Fields.{fieldsRead}
 use Rattle.settings.specs.Answer.{Numbered, numbered}
 use Rattle.settings.specs.Reader.{readOf}
 use Rattle.settings.specs.Writer.{writeOf}
@@ -27,15 +27,15 @@ refusalUnit = 0x100000000000000
 abbrev pub burnUnit : ℕ
 burnUnit = 0x100000000
 
-abbrev pub answerOf : ℕ → Bool → ℕ → ℕ
-answerOf number burn below = number * refusalUnit + (pick burn burnUnit 0 + below)
+abbrev pub oneNumber : ℕ → Bool → ℕ → ℕ
+oneNumber number burn below = number * refusalUnit + (pick burn burnUnit 0 + below)
 
 abbrev pub refusal : ℕ → ℕ
-refusal number = answerOf number false 0
+refusal number = oneNumber number false 0
 
 -- a refusal and the entry that goes with it; 0 where there is none
 abbrev pub refusalOf : Numbered → ℕ
-refusalOf told = answerOf (told .number) false (told .entry)
+refusalOf told = oneNumber (told .number) false (told .entry)
 
 -- ---- start, and the settings reader
 
@@ -55,12 +55,12 @@ storedBy told size bytes area =
     (stored 0 bytes))
 
 -- start; any fuse but 0 is set
-abbrev pub startTold : ℕ → List ℕ → List ℕ → StartTold
-startTold fuse main settings = startOf (not (eqb fuse 0)) main settings
+abbrev pub startByFuse : ℕ → List ℕ → List ℕ → StartTold
+startByFuse fuse main settings = startOf (not (eqb fuse 0)) main settings
 
 abbrev pub startFromC : ℕ → List ℕ → List ℕ → List ℕ → Stored
 startFromC fuse main settings area =
-    storedBy (startTold fuse main settings .answer) recordSize (recordOf (startTold fuse main settings .session)) area
+    storedBy (startByFuse fuse main settings .answer) recordSize (recordOf (startByFuse fuse main settings .session)) area
 
 -- the settings reader: the fields are bytes 52 to 125 of an image
 abbrev pub readFromC : List ℕ → List ℕ → Stored
@@ -96,7 +96,7 @@ called answer area memory reply = record { answer = answer; area = area; memory 
 -- "each changes nothing lent": a refused call stores no record
 unfoldable pub storedAfter : CallTold → List ℕ → List ℕ → Stored
 storedAfter told bytes area =
-    pick (eqb (told .number) 0) (stored (answerOf 0 (told .burn) (told .size)) bytes) (stored (refusal (told .number)) area)
+    pick (eqb (told .number) 0) (stored (oneNumber 0 (told .burn) (told .size)) bytes) (stored (refusal (told .number)) area)
 
 abbrev pub calledFrom : Stored → Left → Called
 calledFrom after left = called (after .answer) (after .area) (left .memory) (left .area)

@@ -9,9 +9,9 @@ use Rattle.octets.specs.Number.{bytesOf, part, numberAt}
 use Rattle.standing.specs.declared.Phase.{Phase}
 use Rattle.standing.specs.declared.Phase.the-variants.{Detect, Command, Standby, Ended, Disabled}
 use Rattle.standing.specs.declared.Standing.{Standing}
-use Rattle.settings.specs.Layout.{form1}
-use Rattle.settings.specs.Image.{bodiesOf}
-use Rattle.settings.specs.Fields.{fieldsRead}
+use Rattle.layout.specs.Layout.{form1}
+use Rattle.fields.specs.Bodies.{bodiesOf}
+use Rattle.fields.specs.Fields.{fieldsRead}
 use Rattle.loader.specs.declared.Session.{Session}
 
 -- a record has 90 bytes: phase, lock, wrong count and rate id; then sleep, idle and the size of MAIN, four bytes each; then the settings' fields

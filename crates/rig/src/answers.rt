@@ -3,7 +3,7 @@ ghost use mathlib.Core.Path.{_≡_};
 ghost use Prim.Native.Nat.{_<_};
 ghost use Rattle.settings.specs.Answer.{readNumbered, writeNumber};
 ghost use Rattle.loader.specs.Answers.{startNumbered};
-ghost use Rattle.rig.specs.Boundary.{answerOf, refusal, refusalOf};
+ghost use Rattle.rig.specs.Boundary.{oneNumber, refusal, refusalOf};
 use loader::StartAnswer;
 use settings::ReadAnswer;
 use settings::WriteAnswer;
@@ -82,7 +82,7 @@ pub(crate) fn of_write(answer: WriteAnswer) -> u64
 // A call that is not refused: the size of its reply, and whether the board is to burn its fuse.
 pub(crate) fn done(burn: bool, size: usize) -> u64
     requires { ⌜ size < 4294967296 ⌝ }
-    ensures { λ r. ⌜ r ≡ answerOf 0 burn size ⌝ }
+    ensures { λ r. ⌜ r ≡ oneNumber 0 burn size ⌝ }
 {
     if burn {
         return BURN_UNIT + size as u64;

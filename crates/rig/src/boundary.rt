@@ -1,13 +1,13 @@
 // What C calls. Any area of any size has an answer, and a refusal changes no byte.
 ghost use mathlib.Core.Path.{_≡_};
 ghost use Prim.Native.Nat.{_<_};
-ghost use lib.ListN.{length};
+ghost use lib.Seq.{sets};
 ghost use Rattle.standing.specs.Rates.{rateOf};
-ghost use Rattle.settings.specs.Image.{bodiesOf};
+ghost use Rattle.fields.specs.Bodies.{bodiesOf};
 ghost use Rattle.settings.specs.Answer.{readNumbered};
 ghost use Rattle.act.specs.Memory.{memory};
 ghost use Rattle.loader.specs.Answers.{startNumbered, callNumbered};
-ghost use Rattle.rig.specs.Records.{recordSize, fieldsSize, recordOf};
+ghost use Rattle.rig.specs.Records.{recordSize, fieldsSize, standingBytes, recordOf};
 ghost use Rattle.rig.specs.Boundary.{stored, storedBy, storedAfter, startFromC, readFromC, writeFromC, called, callFromC};
 use crate::RECORD_SIZE;
 use crate::ZERO_AT;
@@ -66,10 +66,10 @@ fn store_fields(reading: Reading, area: &mut [u8]) -> u64
     if refusal != 0 {
         return refusal;
     }
-    if area.len() != settings::FIELDS_SIZE {
+    if area.len() != fields::FIELDS_SIZE {
         return answers::RECORD_NOT_VALID;
     }
-    settings::put_fields(area, 0, reading.settings);
+    fields::put_fields(area, 0, reading.settings);
     0
 }
 
@@ -89,24 +89,25 @@ pub extern "C" fn bhorelmu_settings_write(fields: &[u8], image: &mut [u8]) -> u6
     if image.len() != settings::IMAGE_SIZE {
         return answers::SETTINGS_SIZE_WRONG;
     }
-    if fields.len() != settings::FIELDS_SIZE {
+    if fields.len() != fields::FIELDS_SIZE {
         return answers::RECORD_NOT_VALID;
     }
     if octets::byte_at(fields, ZERO_AT) != 0 {
         return answers::VALUE_NOT_ALLOWED;
     }
-    answers::of_write(settings::write(settings::read_fields(fields), image))
+    answers::of_write(settings::write(fields::read_fields(fields), image))
 }
 
-// Stores the record of a call that was not refused, and makes one number of its answer.
+// Stores the record of a call that was not refused, and makes one number of its answer. Only how the session stands can have changed.
 fn store_called(call: Called, area: &mut [u8]) -> u64
-    requires { ⌜ (length (now area) ≡ 90) × (callNumbered (call .answer) .size < 4294967296) ⌝ }
+    requires { ⌜ (sets (now area) 0 (standingBytes (call .session .standing)) ≡ recordOf (call .session)) × (callNumbered (call .answer) .size < 4294967296) ⌝ }
     ensures { λ r. ⌜ stored r (now (area .exit)) ≡ storedAfter (callNumbered (call .answer)) (recordOf (call .session)) (now (area .entry)) ⌝ }
 {
     let answer = call.answer;
     match answer {
         CallAnswer::Done { size, burn } => {
-            encoding::put_record(area, call.session);
+            let session = call.session;
+            encoding::put_standing(area, session.standing);
             answers::done(burn, size)
         }
         CallAnswer::ReplyAreaTooSmall => answers::REPLY_AREA_TOO_SMALL,

@@ -41,11 +41,11 @@ fn standing_in(area: &[u8]) -> Standing
 pub(crate) fn session_in(area: &[u8]) -> Session
     ensures { λ r. ⌜ r ≡ sessionIn (now (area .entry)) ⌝ }
 {
-    let fields = octets::part_of(area, FIELDS_AT, settings::FIELDS_SIZE);
+    let fields = octets::part_of(area, FIELDS_AT, fields::FIELDS_SIZE);
     Session {
         standing: standing_in(area),
         main_size: octets::number32_at(area, MAIN_SIZE_AT),
-        settings: settings::read_fields(fields),
+        settings: fields::read_fields(fields),
     }
 }
 

@@ -55,7 +55,8 @@ fn sleep_of(phase: Phase) -> u32
     }
 }
 
-fn put_standing(area: &mut [u8], standing: Standing)
+// Stores how a session stands over the front of its record.
+pub(crate) fn put_standing(area: &mut [u8], standing: Standing)
     ensures { λ _. ⌜ now (area .exit) ≡ sets (now (area .entry)) 0 (standingBytes standing) ⌝ }
 {
     let phase = standing.phase;
@@ -78,5 +79,5 @@ pub(crate) fn put_record(area: &mut [u8], session: Session)
     let settings = session.settings;
     put_standing(area, session.standing);
     stores::put_number(area, MAIN_SIZE_AT, 4, session.main_size);
-    settings::put_fields(area, FIELDS_AT, settings);
+    fields::put_fields(area, FIELDS_AT, settings);
 }

@@ -1,15 +1,20 @@
 -- What the reader tells beside its number.
+use mathlib.Core.Path.{_≡_}
 use Prim.Native.Nat.{ℕ, _≤_}
-use mathlib.Core.Bool.{not}
+use mathlib.Core.Bool.{false, not}
 use mathlib.Core.List.{List}
 use native.Mathlib.Omega.{arith}
 use lib.Dec.{eqb}
-use lib.ListN.{length}
+use lib.ListN.{length, getD}
+use Rattle.octets.specs.Choice.{pick}
 use Rattle.octets.proofs.Searching.{by-pick, by-search}
-use Rattle.values.specs.Values.{blankSettings}
-use Rattle.settings.specs.Layout.{Layout, imageSize, countOf}
+use Rattle.values.specs.declared.Shown.{Shown}
+use Rattle.values.specs.Values.{isAllowed, blankSettings}
+use Rattle.layout.specs.Layout.{Layout, imageSize, countOf}
 use Rattle.settings.specs.Answer.{ReadTold, accepted, refused, refusedAt}
-use Rattle.settings.specs.Reader.{settingsIn, isBlank, checksumDiffers, formUnknown, entryDiffers, differingEntry, fillerDiffers, valueNotAllowed, readWritten, readOf}
+use Rattle.layout.specs.Entries.{entryDiffers, differingEntry}
+use Rattle.fields.specs.Bodies.{bodyIn, shownIn, settingsIn}
+use Rattle.settings.specs.Reader.{isBlank, checksumDiffers, formUnknown, fillerDiffers, valueNotAllowed, readWritten, readOf}
 
 module _ (layout : Layout) (image : List ℕ) where
   -- an entry is told by a number that one of them has, or by 0
@@ -35,3 +40,9 @@ module _ (layout : Layout) (image : List ℕ) where
   entry-there =
       by-pick There (not (eqb (length image) imageSize)) (refused 3) _ (λ y. omega arith)
       (λ n. by-pick There (isBlank image) (accepted blankSettings) (readWritten layout image) (λ y. omega arith) (λ n. written-entry-there))
+
+  -- the values and the zero byte by themselves are those of the image
+  pub bodies-judged : (shown : Shown) (last : ℕ) → shown ≡ shownIn layout image → last ≡ getD (bodyIn layout 3 image) 5 0
+      → not (pick (isAllowed shown) (eqb last 0) false) ≡ valueNotAllowed layout image
+  unfolding valueNotAllowed
+  bodies-judged shown last s z = rw (s, z)

@@ -1,32 +1,12 @@
 -- The image of some settings: table, bodies, filler, checksum.
 use Prim.Native.Nat.{ℕ, _-_}
-use mathlib.Core.List.{List, [], _∷_, _++_}
+use mathlib.Core.List.{List, _++_}
 use lib.ListN.{replicate}
 use Rattle.octets.specs.Number.{bytesOf}
 use Rattle.checksum.specs.Checksum.{checksumOf}
-use Rattle.values.specs.declared.Shown.{Shown}
 use Rattle.values.specs.declared.Settings.{Settings}
-use Rattle.settings.specs.Layout.{Layout, checksumAt, bodiesEnd, tableOf}
-
--- "two bytes each"
-unfoldable pub pairsOf : List ℕ → List ℕ
-pairsOf [] = []
-pairsOf (number ∷ numbers) = bytesOf 2 number ++ pairsOf numbers
-
--- kind 3: "reset mode, alert, readout (two bytes), settings protected, a zero byte"
-abbrev pub valuesOf : Shown → List ℕ
-valuesOf shown =
-    shown .«reset_mode» ∷ shown .alert ∷ (bytesOf 2 (shown .readout) ++ (shown .«settings_protected» ∷ 0 ∷ []))
-
--- kind 4: "BCR id, BSL id"; kind 5: "version pointer"
-abbrev pub numbersOf : Shown → List ℕ
-numbersOf shown = bytesOf 4 (shown .«bcr_id») ++ (bytesOf 4 (shown .«bsl_id») ++ bytesOf 4 (shown .«version_pointer»))
-
--- the bodies in the order of their kinds; kind 6 is "one bit a sector"
-unfoldable pub bodiesOf : Settings → List ℕ
-bodiesOf settings =
-    settings .password
-    ++ (settings .«reset_password» ++ (valuesOf (settings .shown) ++ (numbersOf (settings .shown) ++ settings .protection)))
+use Rattle.layout.specs.Layout.{Layout, checksumAt, bodiesEnd, tableOf, pairsOf}
+use Rattle.fields.specs.Bodies.{bodiesOf}
 
 -- "Bytes 126 to 1,019 are 0xFF."
 abbrev pub fillerOf : Layout → List ℕ

@@ -6,7 +6,7 @@ use lib.Dec.{eqb}
 use lib.ListN.{length}
 use Rattle.octets.specs.Choice.{pick}
 use Rattle.values.specs.declared.Settings.{Settings}
-use Rattle.settings.specs.Layout.{Layout, imageSize}
+use Rattle.layout.specs.Layout.{Layout, imageSize}
 use Rattle.values.specs.Values.{isAllowed}
 use Rattle.settings.specs.Image.{imageOf}
 use Rattle.settings.specs.Answer.{WriteLeft, writeLeft}

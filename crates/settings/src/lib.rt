@@ -1,11 +1,7 @@
 // The settings image: what a board keeps of its owner's choices, read and written by one layout.
-mod fields;
-mod places;
 mod reader;
 mod writer;
 
-pub use fields::put_fields;
-pub use fields::read_fields;
 pub use reader::read;
 use values::Settings;
 pub use writer::write;
@@ -15,8 +11,10 @@ pub const IMAGE_SIZE: usize = 1024;
 
 pub const CHECKSUM_AT: usize = 1020;
 
-// How many bytes the bodies have.
-pub const FIELDS_SIZE: usize = 74;
+// Where the bodies end and the filler begins, which goes on up to the checksum.
+const BODIES_END: usize = layout::BODIES_AT + fields::FIELDS_SIZE;
+
+const FILLER_SIZE: usize = CHECKSUM_AT - BODIES_END;
 
 // What the reader answers. An entry is told by its number, counted from 1.
 pub enum ReadAnswer {

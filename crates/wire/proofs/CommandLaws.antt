@@ -1,6 +1,6 @@
 -- What is read stands in the packet, and what the command byte alone decides.
 use mathlib.Core.Path.{_≡_, refl, sym, ap, _∙_}
-use mathlib.Core.Bool.{true, false, not, true≢false, false≢true}
+use mathlib.Core.Bool.{true, false, not, false≢true}
 use mathlib.Core.List.{List, [], _∷_}
 use Prim.Native.Nat.{ℕ, _+_, _≤_}
 use native.Mathlib.Omega.{arith}
@@ -12,9 +12,9 @@ use Rattle.wire.specs.declared.Guarded.{Guarded}
 use Rattle.wire.specs.declared.Guarded.the-variants as guarded
 use Rattle.wire.specs.declared.Command.{Command}
 use Rattle.wire.specs.declared.Command.the-variants as command
-use Rattle.wire.specs.Codes.{connect, info, unlock, rangeErase, massErase, program, programFast, readBack, verify, factoryReset, start, rate, isOneOf, commands, protectedCommands, silentCommands}
+use Rattle.wire.specs.Codes.{connect, info, unlock, rangeErase, massErase, program, programFast, readBack, verify, factoryReset, start, rate, isOneOf, commands, protectedCommands}
 use Rattle.wire.specs.Packet.{lengthIn, codeIn, rateIn, firstIn, secondIn}
-use Rattle.wire.specs.Commands.{lengthFits, guardedOf, openOf, guardedIn, commandOf, isKnown, isSilentTask, isSilent}
+use Rattle.wire.specs.Commands.{lengthFits, guardedOf, openOf, guardedIn, commandOf, isKnown}
 use Rattle.wire.proofs.CodeLaws.{by-codes}
 
 -- the commands that are not protected
@@ -53,7 +53,7 @@ module _ (packet : List ℕ) where
   TaskStands (guarded.ReadBack address size) = Reads readBack 9 × (firstIn packet ≡ address) × (secondIn packet ≡ size)
   TaskStands (guarded.Verify address size) = Reads verify 9 × (firstIn packet ≡ address) × (secondIn packet ≡ size)
   TaskStands (guarded.FactoryReset with) = Reads factoryReset (pick with 17 1)
-  TaskStands (guarded.WrongLength silent) = lengthFits (codeIn packet) (lengthIn packet) ≡ false
+  TaskStands guarded.WrongLength = lengthFits (codeIn packet) (lengthIn packet) ≡ false
 
   abbrev pub Stands : Command → Type 0
   Stands command.Connect = Reads connect 1
@@ -62,7 +62,7 @@ module _ (packet : List ℕ) where
   Stands (command.Guarded task) = TaskStands task
   Stands command.Start = Reads start 1
   Stands (command.Rate id) = Reads rate 2 × (rateIn packet ≡ id)
-  Stands (command.WrongLength silent) = lengthFits (codeIn packet) (lengthIn packet) ≡ false
+  Stands command.WrongLength = lengthFits (codeIn packet) (lengthIn packet) ≡ false
   Stands command.Unknown = isOneOf (codeIn packet) commands ≡ false
 
   task-stands : isOneOf (codeIn packet) protectedCommands ≡ true → lengthFits (codeIn packet) (lengthIn packet) ≡ true
@@ -101,7 +101,7 @@ module _ (packet : List ℕ) where
       → (isOneOf (codeIn packet) commands ≡ false → P command.Unknown)
       → (isOneOf (codeIn packet) commands ≡ true → isOneOf (codeIn packet) protectedCommands ≡ true → P (command.Guarded (guardedIn packet)))
       → (isOneOf (codeIn packet) commands ≡ true → lengthFits (codeIn packet) (lengthIn packet) ≡ false
-      → P (command.WrongLength (isOneOf (codeIn packet) silentCommands)))
+      → P command.WrongLength)
       → (isOneOf (codeIn packet) commands ≡ true → isOneOf (codeIn packet) openCommands ≡ true
       → lengthFits (codeIn packet) (lengthIn packet) ≡ true → P (openOf (codeIn packet) (rateIn packet)))
       → P (commandOf packet)
@@ -116,7 +116,7 @@ module _ (packet : List ℕ) where
       (λ n. rw n (unknown n))
 
   by-fit : (P : Guarded → Type 0)
-      → (lengthFits (codeIn packet) (lengthIn packet) ≡ false → P (guarded.WrongLength (isOneOf (codeIn packet) silentCommands)))
+      → (lengthFits (codeIn packet) (lengthIn packet) ≡ false → P guarded.WrongLength)
       → (lengthFits (codeIn packet) (lengthIn packet) ≡ true
       → P (guardedOf (codeIn packet) (lengthIn packet) (firstIn packet) (secondIn packet)))
       → P (guardedIn packet)
@@ -143,32 +143,3 @@ module _ (packet : List ℕ) where
       (λ y n. sym y)
       (λ y o f.
       by-codes (λ code. isKnown (openOf code (rateIn packet)) ≡ true) openCommands (codeIn packet) o refl refl refl refl refl ∙ sym y)
-
-  unknown-not-silent : isOneOf (codeIn packet) commands ≡ false → isOneOf (codeIn packet) silentCommands ≡ false
-  unfolding isOneOf pick
-  unknown-not-silent n =
-      by-test (isOneOf (codeIn packet) silentCommands)
-      (λ y.
-      absurd
-      (true≢false
-      (sym (by-codes (λ code. isOneOf code commands ≡ true) silentCommands (codeIn packet) y refl refl refl refl) ∙ n)))
-      (λ m. m)
-
-  -- and whether it ever gets a core reply: four do not, whatever their length
-  pub silent-are-four : isSilent (commandOf packet) ≡ isOneOf (codeIn packet) silentCommands
-  unfolding openOf guardedOf isOneOf pick
-  silent-are-four =
-      by-way (λ command. isSilent command ≡ isOneOf (codeIn packet) silentCommands)
-      (λ n. sym (unknown-not-silent n))
-      (λ y p.
-      by-fit (λ task. isSilentTask task ≡ isOneOf (codeIn packet) silentCommands)
-      (λ n. refl)
-      (λ f.
-      by-codes
-      (λ code. isSilentTask (guardedOf code (lengthIn packet) (firstIn packet) (secondIn packet)) ≡ isOneOf code silentCommands)
-      protectedCommands (codeIn packet) p
-      refl refl refl refl refl refl refl))
-      (λ y n. refl)
-      (λ y o f.
-      by-codes (λ code. isSilent (openOf code (rateIn packet)) ≡ isOneOf code silentCommands) openCommands (codeIn packet) o
-      refl refl refl refl refl)

@@ -9,7 +9,7 @@ use Rattle.checksum.specs.Checksum.{checksumOf}
 use Rattle.wire.specs.Codes.{lengthLimit, commandHeader, acknowledged, headerIncorrect, checksumIncorrect, sizeZero, sizeTooBig, unknownError, unknownRate, rate}
 use Rattle.wire.specs.Packet.{lengthIn, coreIn, checksumIn, codeIn, rateIn}
 
--- "rate id not 1..9"
+-- 01, Commands, 0x52 Rate: "Rates for 1..9"
 unfoldable pub isRate : ℕ → Bool
 isRate id = pick (ltb id 1) false (leb id 9)
 

@@ -1,4 +1,4 @@
--- Every code and limit of the line, once, by the names of source document 004.
+-- Every code and limit of the line, once, by a name of source document 004 or of 01.
 use Prim.Native.Nat.{ℕ}
 use mathlib.Core.Bool.{Bool, true, false}
 use mathlib.Core.List.{List, [], _∷_}
@@ -12,6 +12,7 @@ packetLimit = 1728
 abbrev pub lengthLimit : ℕ
 lengthLimit = 1721
 
+-- so many bytes a reply area has at least, and a reply at most
 abbrev pub replyLimit : ℕ
 replyLimit = 1729
 
@@ -141,7 +142,7 @@ abbrev pub commands : List ℕ
 commands =
     connect ∷ info ∷ unlock ∷ rangeErase ∷ massErase ∷ program ∷ programFast ∷ readBack ∷ verify ∷ factoryReset ∷ start ∷ rate ∷ []
 
--- 01, Commands: those marked "protected"
+-- 01, Commands: those marked "protected", and 0x24, which is "likewise"
 abbrev pub protectedCommands : List ℕ
 protectedCommands = rangeErase ∷ massErase ∷ program ∷ programFast ∷ readBack ∷ verify ∷ factoryReset ∷ []
 

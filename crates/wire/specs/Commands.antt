@@ -45,23 +45,19 @@ openOf code id =
     (pick (eqb code start) command.Start
     (command.Rate id))))
 
--- "Commands 0x12, 0x24, 0x40, 0x52 never get a core reply; when refused they do nothing, silently."
-abbrev pub silentCode : ℕ → Bool
-silentCode code = isOneOf code silentCommands
-
 -- a protected command, of right or wrong length: which of them, is for the lock to hide
 unfoldable pub guardedIn : List ℕ → Guarded
 guardedIn packet =
     pick (lengthFits (codeIn packet) (lengthIn packet))
     (guardedOf (codeIn packet) (lengthIn packet) (firstIn packet) (secondIn packet))
-    (guarded.WrongLength (silentCode (codeIn packet)))
+    guarded.WrongLength
 
 -- "Order for the others: unknown code 04; protected and locked 01; wrong L 06; then each one's own checks."
 unfoldable pub commandOf : List ℕ → Command
 commandOf packet =
     pick (not (isOneOf (codeIn packet) commands)) command.Unknown
     (pick (isOneOf (codeIn packet) protectedCommands) (command.Guarded (guardedIn packet))
-    (pick (not (lengthFits (codeIn packet) (lengthIn packet))) (command.WrongLength (silentCode (codeIn packet)))
+    (pick (not (lengthFits (codeIn packet) (lengthIn packet))) command.WrongLength
     (openOf (codeIn packet) (rateIn packet))))
 
 -- 01, Phases and waits: "the command byte is one of the twelve"
@@ -72,25 +68,12 @@ isKnown command.Unlock = true
 isKnown (command.Guarded task) = true
 isKnown command.Start = true
 isKnown (command.Rate id) = true
-isKnown (command.WrongLength silent) = true
+isKnown command.WrongLength = true
 isKnown command.Unknown = false
 
--- the command never gets a core reply
-abbrev pub isSilentTask : Guarded → Bool
-isSilentTask (guarded.RangeErase first last) = false
-isSilentTask guarded.MassErase = false
-isSilentTask (guarded.Program address size silent) = silent
-isSilentTask (guarded.ReadBack address size) = false
-isSilentTask (guarded.Verify address size) = false
-isSilentTask (guarded.FactoryReset with) = false
-isSilentTask (guarded.WrongLength silent) = silent
+-- "Commands 0x12, 0x24, 0x40, 0x52 never get a core reply; when refused they do nothing, silently."
+abbrev pub silentCode : ℕ → Bool
+silentCode code = isOneOf code silentCommands
 
-abbrev pub isSilent : Command → Bool
-isSilent command.Connect = true
-isSilent command.Info = false
-isSilent command.Unlock = false
-isSilent (command.Guarded task) = isSilentTask task
-isSilent command.Start = true
-isSilent (command.Rate id) = true
-isSilent (command.WrongLength silent) = silent
-isSilent command.Unknown = false
+abbrev pub isSilent : List ℕ → Bool
+isSilent packet = silentCode (codeIn packet)

@@ -1,8 +1,6 @@
-// Every code and limit of the line, once, by the names of source document 004.
+// Every code and limit of the line, once, by a name of source document 004 or of 01.
 
-// Sizes (01, The loader and its edges): of a packet, of its core, of a reply.
-pub const PACKET_LIMIT: usize = 1728;
-
+// Sizes (01, The loader and its edges): of the core of a packet, of a reply.
 pub const LENGTH_LIMIT: u16 = 1721;
 
 pub const REPLY_LIMIT: usize = 1729;

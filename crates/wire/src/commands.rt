@@ -2,7 +2,7 @@
 ghost use mathlib.Core.Path.{_≡_};
 ghost use mathlib.Core.Bool.{true};
 ghost use Rattle.wire.specs.Codes.{isOneOf};
-ghost use Rattle.wire.specs.Commands.{lengthFits, guardedOf, guardedIn, openOf, commandOf, isKnown, isSilentTask, isSilent};
+ghost use Rattle.wire.specs.Commands.{lengthFits, guardedOf, guardedIn, openOf, commandOf, isKnown, isSilent};
 use crate::CORE_AT;
 use crate::Command;
 use crate::FIRST_AT;
@@ -134,8 +134,7 @@ fn guarded_in(packet: &[u8]) -> Guarded
     let code = octets::byte_at(packet, CORE_AT);
     let length = acknowledgement::length_in(packet);
     if !length_fits(code, length) {
-        let silent = is_one_of(code, &SILENT);
-        return Guarded::WrongLength { silent };
+        return Guarded::WrongLength;
     }
     let first = octets::number32_at(packet, FIRST_AT);
     let second = octets::number32_at(packet, SECOND_AT);
@@ -154,8 +153,7 @@ pub fn read_command(packet: &[u8]) -> Command
         return Command::Guarded(guarded_in(packet));
     }
     if !length_fits(code, acknowledgement::length_in(packet)) {
-        let silent = is_one_of(code, &SILENT);
-        return Command::WrongLength { silent };
+        return Command::WrongLength;
     }
     open_of(code, octets::byte_at(packet, FIRST_AT))
 }
@@ -171,47 +169,14 @@ pub fn is_known(command: Command) -> bool
         Command::Guarded(_) => true,
         Command::Start => true,
         Command::Rate(_) => true,
-        Command::WrongLength { silent: _ } => true,
+        Command::WrongLength => true,
         Command::Unknown => false,
     }
 }
 
-fn is_silent_task(task: Guarded) -> bool
-    ensures { λ r. ⌜ r ≡ isSilentTask task ⌝ }
+// Whether the packet's command never gets a core reply, by its command byte alone.
+pub fn is_silent(packet: &[u8]) -> bool
+    ensures { λ r. ⌜ r ≡ isSilent (now (packet .entry)) ⌝ }
 {
-    match task {
-        Guarded::RangeErase { start: _, end: _ } => false,
-        Guarded::MassErase => false,
-        Guarded::Program {
-            address: _,
-            size: _,
-            silent,
-        } => silent,
-        Guarded::ReadBack {
-            address: _,
-            size: _,
-        } => false,
-        Guarded::Verify {
-            address: _,
-            size: _,
-        } => false,
-        Guarded::FactoryReset { with_password: _ } => false,
-        Guarded::WrongLength { silent } => silent,
-    }
-}
-
-// Whether the command never gets a core reply.
-pub fn is_silent(command: Command) -> bool
-    ensures { λ r. ⌜ r ≡ isSilent command ⌝ }
-{
-    match command {
-        Command::Connect => true,
-        Command::Info => false,
-        Command::Unlock => false,
-        Command::Guarded(task) => is_silent_task(task),
-        Command::Start => true,
-        Command::Rate(_) => true,
-        Command::WrongLength { silent } => silent,
-        Command::Unknown => false,
-    }
+    is_one_of(octets::byte_at(packet, CORE_AT), &SILENT)
 }

@@ -24,7 +24,8 @@ pub const FIRST_AT: usize = 4;
 pub const SECOND_AT: usize = 8;
 
 // A protected command. Its wrong length is told in here, so that nobody looks at it before the lock. The data of Program stay
-// in the packet, `size` bytes from SECOND_AT on, and so does a reset password, 16 bytes from FIRST_AT on.
+// in the packet, `size` bytes from SECOND_AT on, and so does a reset password, 16 bytes from FIRST_AT on. A Program that is
+// silent is 0x24.
 pub enum Guarded {
     RangeErase {
         start: u32,
@@ -47,9 +48,7 @@ pub enum Guarded {
     FactoryReset {
         with_password: bool,
     },
-    WrongLength {
-        silent: bool,
-    },
+    WrongLength,
 }
 
 // What a packet asks for, read without looking at the lock. The password of Unlock stays in the packet, 32 bytes from FIRST_AT on.
@@ -60,6 +59,6 @@ pub enum Command {
     Guarded(Guarded),
     Start,
     Rate(u8),
-    WrongLength { silent: bool },
+    WrongLength,
     Unknown,
 }

@@ -21,7 +21,7 @@ others-ask-for-none mainSize memory (guarded.Program address size silent) h = re
 others-ask-for-none mainSize memory (guarded.ReadBack address size) h = absurd (miss (0 ∷ 1 ∷ 2 ∷ 4 ∷ 5 ∷ 6 ∷ []) 3 tt h)
 others-ask-for-none mainSize memory (guarded.Verify address size) h = refl
 others-ask-for-none mainSize memory (guarded.FactoryReset with) h = refl
-others-ask-for-none mainSize memory (guarded.WrongLength silent) h = refl
+others-ask-for-none mainSize memory guarded.WrongLength h = refl
 
 pub bytes-of-task-spec : {M : Type 1} → statement M
 bytes-of-task-spec =

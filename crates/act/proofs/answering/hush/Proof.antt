@@ -1,4 +1,4 @@
--- `act::answering::hush` meets its contract: by the command that the packet has.
+-- `act::answering::hush` meets its contract: by the command byte.
 use Rattle.octets.specs.Choice.{pick}
 use Rattle.act.specs.Answering.{hushed}
 use borrow.Author.Needs.{needs}
@@ -12,6 +12,5 @@ hush-spec =
     (tie.spec
     (λ c κs. search needs)
     (λ c κs. search needs)
-    (λ c κs. search needs)
-    (λ c. rw (← c .before .before .before .read-command .ensures, ← c .before .before .is-silent .ensures, c .before .if1 .taken, c .without-message .ensures))
-    (λ c. rw (← c .before .before .read-command .ensures, ← c .before .is-silent .ensures, c .if1 .left)))
+    (λ c. rw (← c .before .before .is-silent .ensures, c .before .if1 .taken, c .without-core .ensures))
+    (λ c. rw (← c .before .is-silent .ensures, c .if1 .left)))

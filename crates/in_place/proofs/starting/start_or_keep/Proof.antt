@@ -2,6 +2,7 @@
 use borrow.Author.Needs.{needs}
 use Rattle.octets.specs.Choice.{pick}
 use Rattle.in_place.specs.Starting.{startInPlace}
+use Rattle.in_place.proofs.StartLaws.{not-started}
 use Rattle.in_place.proofs.starting.start_or_keep.Statement.{statement}
 use Rattle.in_place.proofs.starting.start_or_keep.Tie as tie
 
@@ -11,6 +12,6 @@ start-or-keep-spec =
     tie.close
     (tie.spec
     (λ c κs. search needs)
-    (λ c κs. search needs)
-    (λ c. rw (← c .before .before .start .ensures, ← c .before .is-started .ensures, c .if1 .taken))
-    (λ c. rw (← c .before .before .start .ensures, ← c .before .is-started .ensures, c .if1 .left)))
+    (λ c. search needs)
+    (λ c. rw (← c .before .before .start .ensures, c .enum-told .given .1))
+    (λ c. rw (← c .before .start .ensures, not-started _ (c .match .keys2))))

@@ -26,7 +26,7 @@ others-are-silent standing command.Unlock h = refl
 others-are-silent standing (command.Guarded task) h = refl
 others-are-silent standing command.Start h = refl
 others-are-silent standing (command.Rate id) h = refl
-others-are-silent standing (command.WrongLength silent) h = refl
+others-are-silent standing command.WrongLength h = refl
 others-are-silent standing command.Unknown h = refl
 
 pub heard-in-detect-spec : {M : Type 1} → statement M

@@ -2,6 +2,7 @@
 use borrow.Author.Needs.{needs}
 use Rattle.octets.specs.Choice.{pick}
 use Rattle.loader.specs.Starting.{startRead}
+use Rattle.loader.proofs.StartLaws.{not-accepted}
 use Rattle.loader.proofs.starting.start_read.Statement.{statement}
 use Rattle.loader.proofs.starting.start_read.Tie as tie
 
@@ -10,9 +11,9 @@ unfolding startRead pick
 start-read-spec =
     tie.close
     (tie.spec
+    (λ c. search needs)
+    (λ c κs. search needs)
+    (λ c. rw (c .before .enum-told .given .1, c .session-of .ensures))
     (λ c κs. search needs)
     (λ c κs. search needs)
-    (λ c. rw (← c .before .before .is-accepted .ensures, c .before .if1 .taken, c .session-of .ensures))
-    (λ c κs. search needs)
-    (λ c κs. search needs)
-    (λ c. rw (← c .before .before .before .is-accepted .ensures, c .before .before .if1 .left, c .refused .ensures, c .before .answer-of .ensures)))
+    (λ c. rw (not-accepted _ (c .before .before .match .keys2), c .refused .ensures, c .before .answer-of .ensures)))

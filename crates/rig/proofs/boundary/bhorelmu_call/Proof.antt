@@ -1,13 +1,15 @@
 -- `rig::boundary::bhorelmu_call` meets its contract: the two refusals in their order, and then the call of the session.
-use mathlib.Core.Path.{sym, ap, _∙_}
+use mathlib.Core.Path.{_≡_, sym, ap, subst, _∙_}
 use native.Mathlib.Omega.{arith}
 use borrow.Author.Needs.{needs}
 use borrow.Author.Tests.{lt-ltb, le-ltb, not-true, not-false}
 use Rattle.octets.specs.Choice.{pick}
 use Rattle.act.specs.Memory.{memory}
-use Rattle.loader.proofs.CallLaws.{call-size-fits}
+use Rattle.loader.specs.Answers.{Left}
+use Rattle.loader.specs.Calling.{standsThen}
+use Rattle.loader.proofs.CallLaws.{call-size-fits, call-keeps-settings}
 use Rattle.rig.specs.Boundary.{callFromC}
-use Rattle.rig.proofs.RecordLaws.{record-area-size}
+use Rattle.rig.proofs.RecordAgain.{next-stored}
 use Rattle.rig.proofs.boundary.bhorelmu_call.Statement.{statement}
 use Rattle.rig.proofs.boundary.bhorelmu_call.Tie as tie
 
@@ -25,9 +27,13 @@ bhorelmu-call-spec =
     (λ c κs.
     let served = c .before .before .before .before .before .before .before in
     let known = served .before .before .before .before .before .before in
-    let a = known .before .before .before .before .before .before .before .before .before .args in (
-      record-area-size (a .area .now) (sym (known .before .is-record-area .ensures) ∙ not-false (known .before .is-record-area .result) (known .if2 .left)),
-      omega (arith, ap (λ left. left .answer .size) (served .call .ensures), call-size-fits (served .before .before .before .before .session-in .result) (memory (a .main .now) (a .settings .now)) (a .wait) (a .packet .now) (a .reply .now)),
+    let lent = known .before .before .before .before .before .before .before .before in
+    let a = lent .before .args in
+    let decoded = served .before .before .before .before .session-in in
+    let kept = call-keeps-settings (decoded .result) (memory (a .main .now) (a .settings .now)) (a .wait) (a .packet .now) (a .reply .now) in (
+      next-stored (a .area .now) (λ k. lent .slice-known .given k .fits) (sym (known .before .is-record-area .ensures) ∙ not-false (known .before .is-record-area .result) (known .if2 .left)) (decoded .result) (served .call .result .session) (decoded .ensures)
+          (subst (λ (left : Left). left .session ≡ standsThen (decoded .result) (left .session .standing)) (sym (served .call .ensures)) kept),
+      omega (arith, ap (λ left. left .answer .size) (served .call .ensures), call-size-fits (decoded .result) (memory (a .main .now) (a .settings .now)) (a .wait) (a .packet .now) (a .reply .now)),
     ))
     (λ c. search needs)
     (λ c. search needs)

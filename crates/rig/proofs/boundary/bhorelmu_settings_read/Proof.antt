@@ -2,7 +2,7 @@
 use mathlib.Core.Path.{ap}
 use native.Mathlib.Omega.{arith}
 use borrow.Author.Needs.{needs}
-use Rattle.settings.specs.Layout.{form1}
+use Rattle.layout.specs.Layout.{form1}
 use Rattle.settings.proofs.ReaderLaws.{entry-there}
 use Rattle.rig.proofs.boundary.bhorelmu_settings_read.Statement.{statement}
 use Rattle.rig.proofs.boundary.bhorelmu_settings_read.Tie as tie

@@ -6,8 +6,8 @@ use borrow.Author.Tests.{eq-eqb, ne-eqb}
 use lib.ListN.{length}
 use Rattle.octets.specs.Choice.{pick}
 use Rattle.stores.proofs.Storing.{stored-whole}
-use Rattle.settings.specs.Image.{bodiesOf}
-use Rattle.settings.proofs.WriterLaws.{length-bodies}
+use Rattle.fields.specs.Bodies.{bodiesOf}
+use Rattle.fields.proofs.BodyLaws.{length-bodies}
 use Rattle.rig.specs.Boundary.{stored, storedBy}
 use Rattle.rig.proofs.boundary.store_fields.Statement.{statement}
 use Rattle.rig.proofs.boundary.store_fields.Tie as tie

@@ -2,7 +2,7 @@
 use mathlib.Core.Path.{_≡_}
 use borrow.Author.Needs.{needs}
 use lib.ListN.{length}
-use Rattle.settings.proofs.WriterLaws.{length-bodies}
+use Rattle.fields.proofs.BodyLaws.{length-bodies}
 use Rattle.rig.proofs.RecordLaws.{record-joined}
 use Rattle.rig.proofs.encoding.put_record.Statement.{statement}
 use Rattle.rig.proofs.encoding.put_record.Tie as tie

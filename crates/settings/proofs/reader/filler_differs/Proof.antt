@@ -1,8 +1,7 @@
 -- `settings::reader::filler_differs` meets its contract: every byte from the end of the bodies up to the checksum is looked at.
-use native.Mathlib.Omega.{arith}
 use borrow.Author.Needs.{needs}
+use Rattle.layout.specs.Table.{filler-from-126}
 use Rattle.settings.specs.Reader.{fillerDiffers}
-use Rattle.settings.proofs.LayoutLaws.{offset-small}
 use Rattle.settings.proofs.reader.filler_differs.Statement.{statement}
 use Rattle.settings.proofs.reader.filler_differs.Tie as tie
 
@@ -11,9 +10,6 @@ unfolding fillerDiffers
 filler-differs-spec =
     tie.close
     (tie.spec
-    (λ c. search needs)
-    (λ c κs. search needs)
-    (λ c. omega (arith, c .offset-of .ensures, offset-small 7))
     (λ c κs. search needs)
     (λ c κs. search needs)
-    (λ c. rw (c .all-are .ensures, c .before .part-of .ensures, c .before .before .offset-of .ensures)))
+    (λ c. rw (c .all-are .ensures, c .before .part-of .ensures, filler-from-126)))

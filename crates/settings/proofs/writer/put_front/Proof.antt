@@ -21,5 +21,5 @@ put-front-spec =
     (λ c.
     let start = c .before .before .before .before .before .before .before .before .before .before .before .before .before in
     let n = sizes start in
-    rw (c .before .before .put-filler .ensures, c .before .before .before .before .before .before .put-bodies .ensures, c .before .before .before .before .before .before .before .before .before .before .put-table .ensures)
+    rw (c .before .before .put-filler .ensures, c .before .before .before .before .before .before .put-fields .ensures, c .before .before .before .before .before .before .before .before .before .before .put-table .ensures)
     (front-joined (start .args .settings) (n .0) (n .1) (n .2) (start .args .image .now))))

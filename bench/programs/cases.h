@@ -1,0 +1,54 @@
+#ifndef CASES_H
+#define CASES_H
+
+#include <stdbool.h>
+#include <stddef.h>
+#include <stdint.h>
+
+/* What is timed: one call of one function, on a board and with a packet that are made new for it. */
+
+enum { SECTOR = 1024, MAIN_MOST = 65536, SETTINGS_SIZE = 1024, RECORD_SIZE = 90, FIELDS_SIZE = 74 };
+enum { REPLY_SIZE = 1729, PACKET_MOST = 1728 };
+
+/* The first of each is what most cases have. */
+enum function { CALL, START, SETTINGS_READ, SETTINGS_WRITE, RATE };
+enum state { UNLOCKED, LOCKED, TWO_WRONG, IN_DETECT, ASLEEP, ENDED, NOT_VALID };
+enum preset { WRITTEN, BLANK, DAMAGED_IMAGE, HALF_PROTECTED, ALL_PROTECTED, ALERT_RESETS, RESET_WANTS_PASSWORD };
+enum body { NO_BODY, RATE_ID, TWO_NUMBERS, DATA, PASSWORD, WRONG_PASSWORD, RESET_PASSWORD };
+enum damage { WHOLE, WRONG_CHECKSUM, WRONG_HEADER };
+
+struct bench_case {
+    const char *name, *detail;
+    size_t bytes;     /* of flash, packet or image that the call is about */
+    bool only_a_size; /* of the table over sizes alone */
+
+    enum function function;
+    enum state state;
+    enum preset preset;
+    size_t main_size, reply_size; /* 0: the largest MAIN, and a reply area as large as it must be */
+
+    uint8_t code; /* of the command; 0: an empty packet */
+    enum body body;
+    uint32_t first, second; /* numbers of the body; `second` is the size of data */
+    enum damage damage;
+
+    uint64_t answer; /* what the call must answer */
+    uint8_t message; /* and the message that it sends, where the reply is one */
+};
+
+extern const struct bench_case bench_cases[];
+extern const size_t bench_case_count;
+
+size_t main_size_of(const struct bench_case *bench_case);
+size_t reply_size_of(const struct bench_case *bench_case);
+
+struct board {
+    uint8_t main_flash[MAIN_MOST], settings[SETTINGS_SIZE], fields[FIELDS_SIZE], record[RECORD_SIZE];
+    uint8_t packet[PACKET_MOST];
+    size_t packet_size;
+};
+
+/* The board of a case before the call, and the packet. */
+void make_board(const struct bench_case *bench_case, struct board *board);
+
+#endif

@@ -1,0 +1,118 @@
+#include "sides.h"
+
+#include "bhorelmu.h"
+#include "rig/model/model.h"
+
+#include <string.h>
+
+struct functions {
+    uint64_t (*start)(uint32_t, const uint8_t *, size_t, const uint8_t *, size_t, uint8_t *, size_t);
+    uint64_t (*call)(uint8_t *, size_t, uint8_t *, size_t, uint8_t *, size_t, uint32_t, const uint8_t *, size_t,
+                     uint8_t *, size_t);
+    uint64_t (*settings_read)(const uint8_t *, size_t, uint8_t *, size_t);
+    uint64_t (*settings_write)(const uint8_t *, size_t, uint8_t *, size_t);
+    uint32_t (*rate)(uint32_t);
+};
+
+static uint64_t no_start(uint32_t fuse, const uint8_t *main_flash, size_t main_size, const uint8_t *settings,
+                         size_t settings_size, uint8_t *record, size_t record_size)
+{
+    (void)fuse, (void)main_flash, (void)main_size, (void)settings, (void)settings_size, (void)record, (void)record_size;
+    return 0;
+}
+
+static uint64_t no_call(uint8_t *record, size_t record_size, uint8_t *main_flash, size_t main_size, uint8_t *settings,
+                        size_t settings_size, uint32_t wait, const uint8_t *packet, size_t packet_size, uint8_t *reply,
+                        size_t reply_size)
+{
+    (void)record, (void)record_size, (void)main_flash, (void)main_size, (void)settings, (void)settings_size;
+    (void)wait, (void)packet, (void)packet_size, (void)reply, (void)reply_size;
+    return 0;
+}
+
+static uint64_t no_read(const uint8_t *image, size_t image_size, uint8_t *fields, size_t fields_size)
+{
+    (void)image, (void)image_size, (void)fields, (void)fields_size;
+    return 0;
+}
+
+static uint64_t no_write(const uint8_t *fields, size_t fields_size, uint8_t *image, size_t image_size)
+{
+    (void)image, (void)image_size, (void)fields, (void)fields_size;
+    return 0;
+}
+
+static uint32_t no_rate(uint32_t id)
+{
+    (void)id;
+    return 0;
+}
+
+static const struct functions functions_of[SIDES] = {
+    [OURS] = {bhorelmu_start, bhorelmu_call, bhorelmu_settings_read, bhorelmu_settings_write, bhorelmu_rate},
+    [MODEL] = {model_start, model_call, model_settings_read, model_settings_write, model_rate},
+    [NOTHING] = {no_start, no_call, no_read, no_write, no_rate},
+};
+
+void begin(struct side *side, enum which which, const struct bench_case *bench_case, const struct board *fresh)
+{
+    side->bench_case = bench_case;
+    side->functions = &functions_of[which];
+    side->fresh = fresh;
+    side->now = *fresh;
+    memset(side->reply, 0xA5, sizeof side->reply);
+}
+
+void renew_records(void *subject, size_t calls)
+{
+    struct side *side = subject;
+    for (size_t i = 0; i < calls; i++)
+        memcpy(side->records[i], side->fresh->record, RECORD_SIZE);
+}
+
+static uint64_t call_once(struct side *side, uint8_t *record)
+{
+    const struct bench_case *bench_case = side->bench_case;
+    const struct functions *functions = side->functions;
+    struct board *now = &side->now;
+    switch (bench_case->function) {
+    case CALL:
+        return functions->call(record, RECORD_SIZE, now->main_flash, main_size_of(bench_case), now->settings,
+                               SETTINGS_SIZE, 0, now->packet, now->packet_size, side->reply, reply_size_of(bench_case));
+    case START:
+        return functions->start(0, now->main_flash, main_size_of(bench_case), now->settings, SETTINGS_SIZE, record,
+                                RECORD_SIZE);
+    case SETTINGS_READ:
+        return functions->settings_read(now->settings, SETTINGS_SIZE, now->fields, FIELDS_SIZE);
+    case SETTINGS_WRITE:
+        return functions->settings_write(now->fields, FIELDS_SIZE, now->settings, SETTINGS_SIZE);
+    default:
+        return functions->rate(6);
+    }
+}
+
+void make_calls(void *subject, size_t calls)
+{
+    struct side *side = subject;
+    for (size_t i = 0; i < calls; i++)
+        side->answers[i] = call_once(side, side->records[i]);
+}
+
+static bool answers_right(const struct side *side, size_t calls)
+{
+    for (size_t i = 0; i < calls; i++)
+        if (side->answers[i] != side->bench_case->answer)
+            return false;
+    bool is_message = side->bench_case->function == CALL && side->answers[0] == 10 && side->reply[4] == 0x3B;
+    return !is_message || side->reply[5] == side->bench_case->message;
+}
+
+bool sides_agree(const struct side *ours, const struct side *model, size_t calls)
+{
+    for (size_t i = 0; i < calls; i++)
+        if (memcmp(ours->records[i], model->records[i], RECORD_SIZE) != 0)
+            return false;
+    return answers_right(ours, calls) && answers_right(model, calls) &&
+           memcmp(&ours->now, &model->now, sizeof ours->now) == 0 &&
+           memcmp(ours->reply, model->reply, sizeof ours->reply) == 0;
+}

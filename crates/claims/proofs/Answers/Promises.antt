@@ -1,0 +1,309 @@
+-- Each public function of each crate: its promise has one answer. The promise stands here as the function's contract has it.
+-- Where areas are lent to be written, an answer is what is returned, then what is left in each area, in the order of the parameters.
+use mathlib.Core.Path.{_≡_, refl, ap}
+use mathlib.Core.Bool.{Bool}
+use mathlib.Core.List.{List}
+use Prim.Native.Nat.{ℕ, _-_, min}
+use lib.ListN.{length, getD, replicate}
+use lib.Seq.{sets}
+use Rattle.octets.specs.Number.{part, numberAt, bytesOf}
+use Rattle.octets.specs.Search.{allAre}
+use Rattle.hex.specs.Hex.{hexOf}
+use Rattle.checksum.specs.Checksum.{checksumFrom, checksumOf}
+use Rattle.wire.specs.declared.Command.{Command}
+use Rattle.wire.specs.Acknowledgement.{isRate, acknowledgement}
+use Rattle.wire.specs.Commands.{commandOf, isKnown, isSilent}
+use Rattle.replies.specs.declared.Reply.{Reply}
+use Rattle.replies.specs.Replies.{replyBytes, Sent, sent, sentOf}
+use Rattle.standing.specs.declared.Phase.{Phase}
+use Rattle.standing.specs.declared.Standing.{Standing}
+use Rattle.standing.specs.Phases.{atStart, isValid}
+use Rattle.standing.specs.Rates.{rateOf}
+use Rattle.standing.specs.Waits.{passTime}
+use Rattle.values.specs.declared.Shown.{Shown}
+use Rattle.values.specs.declared.Settings.{Settings}
+use Rattle.values.specs.Values.{isAllowed, blankSettings, noSettings}
+use Rattle.layout.specs.Layout.{form1, tableOf, pairsOf}
+use Rattle.layout.specs.Entries.{differingEntry}
+use Rattle.fields.specs.Bodies.{bodiesOf}
+use Rattle.fields.specs.Fields.{fieldsRead}
+use Rattle.settings.specs.declared.WriteAnswer.{WriteAnswer}
+use Rattle.settings.specs.Answer.{numbered, readTold, writeLeft, writeNumber}
+use Rattle.settings.specs.Reader.{readOf}
+use Rattle.settings.specs.Writer.{writeOf}
+use Rattle.regions.specs.declared.Part.{Part}
+use Rattle.regions.specs.Regions.{mspm0Part, placeOf}
+use Rattle.sectors.specs.Protection.{isProtected}
+use Rattle.sectors.specs.Erasing.{eraseOf, eraseAllOf}
+use Rattle.flash.specs.Programming.{programOf}
+use Rattle.judge.specs.declared.Effect.{Effect}
+use Rattle.judge.specs.Hearing.{judgedOf}
+use Rattle.act.specs.Memory.{memory, acted, board}
+use Rattle.act.specs.Acting.{actOf}
+use Rattle.act.specs.Answering.{answerOf}
+use Rattle.loader.specs.declared.Session.{Session}
+use Rattle.loader.specs.declared.StartAnswer.{StartAnswer}
+use Rattle.loader.specs.declared.CallAnswer.{CallAnswer}
+use Rattle.loader.specs.declared.Called.{Called}
+use Rattle.loader.specs.Answers.{startNumbered, startTold, callNumbered, left, callLeft}
+use Rattle.loader.specs.Starting.{startOf}
+use Rattle.loader.specs.Calling.{callOf}
+use Rattle.in_place.specs.Starting.{startLeft, startInPlace}
+use Rattle.rig.specs.Boundary as rig
+use Rattle.script.specs.Form.{scriptTold, scriptOf, waitIn, packetIn}
+use Rattle.lines.specs.Writing.{lineOf, endOf, Written, written, writtenOf}
+use Rattle.claims.proofs.Answers.OneAnswer.{OneAnswer, given-back, as-said}
+use Rattle.claims.proofs.Answers.NumberedAnswers.{readBy, read-back, writtenBy, written-back, startedBy, started-back, calledBy, called-back, scriptBy, script-back}
+
+-- ---- octets
+
+pub least-is-one : (a b : ℕ) → OneAnswer (λ r. r ≡ min a b)
+least-is-one a b = as-said (min a b)
+
+pub room-is-one : (size at : ℕ) → OneAnswer (λ r. r ≡ size - at)
+room-is-one size at = as-said (size - at)
+
+pub byte-at-is-one : (bytes : List ℕ) (at : ℕ) → OneAnswer (λ r. r ≡ getD bytes at 0)
+byte-at-is-one bytes at = as-said (getD bytes at 0)
+
+-- of the slice that comes back, the bytes; where they lie is not said
+pub part-of-is-one : (bytes : List ℕ) (at count : ℕ) → OneAnswer (λ r. r ≡ part at count bytes)
+part-of-is-one bytes at count = as-said (part at count bytes)
+
+pub number16-at-is-one : (bytes : List ℕ) (at : ℕ) → OneAnswer (λ r. r ≡ numberAt at 2 bytes)
+number16-at-is-one bytes at = as-said (numberAt at 2 bytes)
+
+pub number32-at-is-one : (bytes : List ℕ) (at : ℕ) → OneAnswer (λ r. r ≡ numberAt at 4 bytes)
+number32-at-is-one bytes at = as-said (numberAt at 4 bytes)
+
+pub all-are-is-one : (value : ℕ) (bytes : List ℕ) → OneAnswer (λ r. r ≡ allAre value bytes)
+all-are-is-one value bytes = as-said (allAre value bytes)
+
+-- ---- stores
+
+pub put-is-one : (area : List ℕ) (at : ℕ) (bytes : List ℕ) → OneAnswer (λ area'. area' ≡ sets area at bytes)
+put-is-one area at bytes = as-said (sets area at bytes)
+
+pub put-number-is-one : (area : List ℕ) (at width number : ℕ) → OneAnswer (λ area'. area' ≡ sets area at (bytesOf width number))
+put-number-is-one area at width number = as-said (sets area at (bytesOf width number))
+
+pub fill-is-one : (area : List ℕ) (value : ℕ) → OneAnswer (λ area'. area' ≡ replicate (length area) value)
+fill-is-one area value = as-said (replicate (length area) value)
+
+-- ---- checksum
+
+pub checksum-of-is-one : (bytes : List ℕ) → OneAnswer (λ r. r ≡ checksumOf bytes)
+checksum-of-is-one bytes = as-said (checksumOf bytes)
+
+pub checksum-from-is-one : (earlier : ℕ) (bytes : List ℕ) → OneAnswer (λ r. r ≡ checksumFrom earlier bytes)
+checksum-from-is-one earlier bytes = as-said (checksumFrom earlier bytes)
+
+-- ---- hex
+
+pub put-hex-is-one : (area : List ℕ) (at : ℕ) (bytes : List ℕ) → OneAnswer (λ area'. area' ≡ sets area at (hexOf bytes))
+put-hex-is-one area at bytes = as-said (sets area at (hexOf bytes))
+
+-- ---- wire
+
+pub is-rate-is-one : (id : ℕ) → OneAnswer (λ r. r ≡ isRate id)
+is-rate-is-one id = as-said (isRate id)
+
+pub acknowledge-is-one : (packet : List ℕ) → OneAnswer (λ r. r ≡ acknowledgement packet)
+acknowledge-is-one packet = as-said (acknowledgement packet)
+
+pub read-command-is-one : (packet : List ℕ) → OneAnswer (λ r. r ≡ commandOf packet)
+read-command-is-one packet = as-said (commandOf packet)
+
+pub is-known-is-one : (command : Command) → OneAnswer (λ r. r ≡ isKnown command)
+is-known-is-one command = as-said (isKnown command)
+
+pub is-silent-is-one : (packet : List ℕ) → OneAnswer (λ r. r ≡ isSilent packet)
+is-silent-is-one packet = as-said (isSilent packet)
+
+-- ---- replies
+
+sent-is-one : (value : Sent) → OneAnswer {A = ℕ × List ℕ} (λ r. sent (r .0) (r .1) ≡ value)
+sent-is-one = given-back (λ r. sent (r .0) (r .1)) (λ s. (s .size, s .area)) (λ r. refl)
+
+pub write-reply-is-one : (reply : Reply) (bytes area : List ℕ) → OneAnswer {A = ℕ × List ℕ} (λ r. sent (r .0) (r .1) ≡ sentOf (replyBytes reply bytes) area)
+write-reply-is-one reply bytes area = sent-is-one (sentOf (replyBytes reply bytes) area)
+
+-- ---- standing
+
+pub at-start-is-one : OneAnswer (λ r. r ≡ atStart)
+at-start-is-one = as-said atStart
+
+pub is-valid-is-one : (standing : Standing) → OneAnswer (λ r. r ≡ isValid standing)
+is-valid-is-one standing = as-said (isValid standing)
+
+pub rate-of-is-one : (id : ℕ) → OneAnswer (λ r. r ≡ rateOf id)
+rate-of-is-one id = as-said (rateOf id)
+
+pub pass-time-is-one : (standing : Standing) (wait : ℕ) → OneAnswer (λ r. r ≡ passTime standing wait)
+pass-time-is-one standing wait = as-said (passTime standing wait)
+
+-- ---- values
+
+pub are-allowed-is-one : (shown : Shown) → OneAnswer (λ r. r ≡ isAllowed shown)
+are-allowed-is-one shown = as-said (isAllowed shown)
+
+pub blank-is-one : OneAnswer (λ r. r ≡ blankSettings)
+blank-is-one = as-said blankSettings
+
+pub none-is-one : OneAnswer (λ r. r ≡ noSettings)
+none-is-one = as-said noSettings
+
+-- ---- layout
+
+pub put-table-is-one : (image : List ℕ) → OneAnswer (λ image'. image' ≡ sets image 0 (pairsOf (tableOf form1)))
+put-table-is-one image = as-said (sets image 0 (pairsOf (tableOf form1)))
+
+pub differing-entry-is-one : (image : List ℕ) → OneAnswer (λ r. r ≡ differingEntry form1 image)
+differing-entry-is-one image = as-said (differingEntry form1 image)
+
+-- ---- fields
+
+pub read-fields-is-one : (fields : List ℕ) → OneAnswer (λ r. r ≡ fieldsRead form1 fields)
+read-fields-is-one fields = as-said (fieldsRead form1 fields)
+
+pub put-fields-is-one : (area : List ℕ) (at : ℕ) (settings : Settings) → OneAnswer (λ area'. area' ≡ sets area at (bodiesOf settings))
+put-fields-is-one area at settings = as-said (sets area at (bodiesOf settings))
+
+-- ---- settings
+
+pub read-is-one : (image : List ℕ) → OneAnswer (λ r. readTold r ≡ readOf form1 image)
+read-is-one image =
+    given-back readTold (λ told. record { answer = readBy (numbered (told .number) (told .entry)); settings = told .settings })
+    (λ r. ap (λ answer. record { answer = answer; settings = r .settings }) (read-back (r .answer)))
+    (readOf form1 image)
+
+pub write-is-one : (settings : Settings) (image : List ℕ) → OneAnswer {A = WriteAnswer × List ℕ} (λ r. writeLeft (writeNumber (r .0)) (r .1) ≡ writeOf form1 settings image)
+write-is-one settings image =
+    given-back (λ r. writeLeft (writeNumber (r .0)) (r .1)) (λ l. (writtenBy (l .number), l .image))
+    (λ r. ap (λ answer. (answer, r .1)) (written-back (r .0)))
+    (writeOf form1 settings image)
+
+-- ---- regions
+
+pub mspm0-is-one : OneAnswer (λ r. r ≡ mspm0Part)
+mspm0-is-one = as-said mspm0Part
+
+pub locate-is-one : (part : Part) (mainSize first count : ℕ) → OneAnswer (λ r. r ≡ placeOf part mainSize first count)
+locate-is-one part mainSize first count = as-said (placeOf part mainSize first count)
+
+-- ---- sectors
+
+pub is-protected-is-one : (protection : List ℕ) (sector : ℕ) → OneAnswer (λ r. r ≡ isProtected protection sector)
+is-protected-is-one protection sector = as-said (isProtected protection sector)
+
+pub erase-is-one : (memory : List ℕ) (sectorSize : ℕ) (protection : List ℕ) (first last : ℕ) → OneAnswer (λ memory'. memory' ≡ eraseOf sectorSize protection first last memory)
+erase-is-one memory sectorSize protection first last = as-said (eraseOf sectorSize protection first last memory)
+
+pub erase-all-is-one : (memory : List ℕ) (sectorSize : ℕ) (protection : List ℕ) → OneAnswer (λ memory'. memory' ≡ eraseAllOf sectorSize protection memory)
+erase-all-is-one memory sectorSize protection = as-said (eraseAllOf sectorSize protection memory)
+
+-- ---- flash
+
+pub program-is-one : (memory : List ℕ) (sectorSize : ℕ) (protection : List ℕ) (at : ℕ) (bytes : List ℕ) → OneAnswer (λ memory'. memory' ≡ programOf sectorSize protection at bytes memory)
+program-is-one memory sectorSize protection at bytes = as-said (programOf sectorSize protection at bytes memory)
+
+-- ---- judge
+
+pub judge-is-one : (standing : Standing) (alert wait : ℕ) (packet : List ℕ) (right : Bool) → OneAnswer (λ r. r ≡ judgedOf standing alert wait packet right)
+judge-is-one standing alert wait packet right = as-said (judgedOf standing alert wait packet right)
+
+-- ---- act
+
+pub act-is-one : (effect : Effect) (shown : Shown) (protection : List ℕ) (mainSize : ℕ) (right : Bool) (packet main image : List ℕ)
+    → OneAnswer {A = Reply × List ℕ × List ℕ}
+    (λ r. acted (r .0) (memory (r .1) (r .2)) ≡ actOf (board mainSize shown protection) right packet (memory main image) effect)
+act-is-one effect shown protection mainSize right packet main image =
+    given-back (λ r. acted (r .0) (memory (r .1) (r .2))) (λ l. (l .reply, l .memory .main, l .memory .settings)) (λ r. refl)
+    (actOf (board mainSize shown protection) right packet (memory main image) effect)
+
+pub answer-is-one : (effect : Effect) (reply : Reply) (packet : List ℕ) (mainSize : ℕ) (main image area : List ℕ)
+    → OneAnswer {A = ℕ × List ℕ} (λ r. sent (r .0) (r .1) ≡ answerOf effect reply packet mainSize (memory main image) area)
+answer-is-one effect reply packet mainSize main image area = sent-is-one (answerOf effect reply packet mainSize (memory main image) area)
+
+-- ---- loader
+
+pub start-is-one : (fuse : Bool) (main image : List ℕ) → OneAnswer (λ r. startTold r ≡ startOf fuse main image)
+start-is-one fuse main image =
+    given-back startTold (λ told. record { answer = startedBy (told .answer); session = told .session })
+    (λ r. ap (λ answer. record { answer = answer; session = r .session }) (started-back (r .answer)))
+    (startOf fuse main image)
+
+pub call-is-one : (session : Session) (main image : List ℕ) (wait : ℕ) (packet area : List ℕ)
+    → OneAnswer {A = Called × List ℕ × List ℕ × List ℕ}
+    (λ r. callLeft (r .0) (memory (r .1) (r .2)) (r .3) ≡ callOf session (memory main image) wait packet area)
+call-is-one session main image wait packet area =
+    given-back (λ r. callLeft (r .0) (memory (r .1) (r .2)) (r .3))
+    (λ l. (record { answer = calledBy (l .answer); session = l .session }, l .memory .main, l .memory .settings, l .area))
+    (λ r. ap (λ answer. (record { answer = answer; session = r .0 .session }, r .1, r .2, r .3)) (called-back (r .0 .answer)))
+    (callOf session (memory main image) wait packet area)
+
+-- ---- in_place
+
+pub in-place-start-is-one : (session : Session) (fuse : Bool) (main image : List ℕ)
+    → OneAnswer {A = StartAnswer × Session} (λ r. startLeft (startNumbered (r .0)) (r .1) ≡ startInPlace session fuse main image)
+in-place-start-is-one session fuse main image =
+    given-back (λ r. startLeft (startNumbered (r .0)) (r .1)) (λ told. (startedBy (told .answer), told .session))
+    (λ r. ap (λ answer. (answer, r .1)) (started-back (r .0)))
+    (startInPlace session fuse main image)
+
+pub in-place-call-is-one : (session : Session) (main image : List ℕ) (wait : ℕ) (packet area : List ℕ)
+    → OneAnswer {A = CallAnswer × Session × List ℕ × List ℕ × List ℕ}
+    (λ r. left (callNumbered (r .0)) (r .1) (memory (r .2) (r .3)) (r .4) ≡ callOf session (memory main image) wait packet area)
+in-place-call-is-one session main image wait packet area =
+    given-back (λ r. left (callNumbered (r .0)) (r .1) (memory (r .2) (r .3)) (r .4))
+    (λ l. (calledBy (l .answer), l .session, l .memory .main, l .memory .settings, l .area))
+    (λ r. ap (λ answer. (answer, r .1, r .2, r .3, r .4)) (called-back (r .0)))
+    (callOf session (memory main image) wait packet area)
+
+-- ---- rig
+
+pub bhorelmu-rate-is-one : (id : ℕ) → OneAnswer (λ r. r ≡ rateOf id)
+bhorelmu-rate-is-one = rate-of-is-one
+
+stored-is-one : (value : rig.Stored) → OneAnswer {A = ℕ × List ℕ} (λ r. rig.stored (r .0) (r .1) ≡ value)
+stored-is-one = given-back (λ r. rig.stored (r .0) (r .1)) (λ s. (s .answer, s .area)) (λ r. refl)
+
+pub bhorelmu-start-is-one : (fuse : ℕ) (main settings area : List ℕ) → OneAnswer {A = ℕ × List ℕ} (λ r. rig.stored (r .0) (r .1) ≡ rig.startFromC fuse main settings area)
+bhorelmu-start-is-one fuse main settings area = stored-is-one (rig.startFromC fuse main settings area)
+
+pub bhorelmu-settings-read-is-one : (image fields : List ℕ) → OneAnswer {A = ℕ × List ℕ} (λ r. rig.stored (r .0) (r .1) ≡ rig.readFromC image fields)
+bhorelmu-settings-read-is-one image fields = stored-is-one (rig.readFromC image fields)
+
+pub bhorelmu-settings-write-is-one : (fields image : List ℕ) → OneAnswer {A = ℕ × List ℕ} (λ r. rig.stored (r .0) (r .1) ≡ rig.writeFromC fields image)
+bhorelmu-settings-write-is-one fields image = stored-is-one (rig.writeFromC fields image)
+
+pub bhorelmu-call-is-one : (area main settings : List ℕ) (wait : ℕ) (packet reply : List ℕ)
+    → OneAnswer {A = ℕ × List ℕ × List ℕ × List ℕ × List ℕ}
+    (λ r. rig.called (r .0) (r .1) (memory (r .2) (r .3)) (r .4) ≡ rig.callFromC area (memory main settings) wait packet reply)
+bhorelmu-call-is-one area main settings wait packet reply =
+    given-back (λ r. rig.called (r .0) (r .1) (memory (r .2) (r .3)) (r .4))
+    (λ l. (l .answer, l .area, l .memory .main, l .memory .settings, l .reply)) (λ r. refl)
+    (rig.callFromC area (memory main settings) wait packet reply)
+
+-- ---- script
+
+pub read-script-is-one : (script : List ℕ) → OneAnswer (λ r. scriptTold r ≡ scriptOf script)
+read-script-is-one script = given-back scriptTold scriptBy script-back (scriptOf script)
+
+pub wait-of-is-one : (script : List ℕ) (index : ℕ) → OneAnswer (λ r. r ≡ waitIn script index)
+wait-of-is-one script index = as-said (waitIn script index)
+
+-- of the slice that comes back, the bytes
+pub packet-of-is-one : (script : List ℕ) (index : ℕ) → OneAnswer (λ r. r ≡ packetIn script index)
+packet-of-is-one script index = as-said (packetIn script index)
+
+-- ---- lines
+
+line-is-one : (value : Written) → OneAnswer {A = ℕ × List ℕ} (λ r. written (r .0) (r .1) ≡ value)
+line-is-one = given-back (λ r. written (r .0) (r .1)) (λ w. (w .size, w .area)) (λ r. refl)
+
+pub write-line-is-one : (number : ℕ) (reply area : List ℕ) → OneAnswer {A = ℕ × List ℕ} (λ r. written (r .0) (r .1) ≡ writtenOf (lineOf number reply) area)
+write-line-is-one number reply area = line-is-one (writtenOf (lineOf number reply) area)
+
+pub write-end-is-one : (phase : Phase) (area : List ℕ) → OneAnswer {A = ℕ × List ℕ} (λ r. written (r .0) (r .1) ≡ writtenOf (endOf phase) area)
+write-end-is-one phase area = line-is-one (writtenOf (endOf phase) area)

@@ -1,0 +1,121 @@
+-- A locked board in its session: all of it follows from its start and from how it stands.
+use mathlib.Core.Path.{_≡_, refl, sym, ap, ap₂, subst}
+use mathlib.Core.Bool.{Bool, true, false}
+use mathlib.Core.List.{List}
+use Prim.Native.Nat.{ℕ}
+use lib.Dec.{eqb}
+use lib.ListN.{length}
+use Rattle.octets.specs.Choice.{pick}
+use Rattle.octets.proofs.Searching.{pick-true, pick-false, by-test}
+use Rattle.standing.specs.declared.Standing.{Standing}
+use Rattle.standing.specs.Phases.{atStart, isUnlocked}
+use Rattle.sectors.specs.Erasing.{eraseAllOf}
+use Rattle.sectors.proofs.ErasingLaws.{erase-all-keeps-length, erase-all-at, erase-all-twice}
+use Rattle.judge.specs.Unlocking.{alertReset}
+use Rattle.act.specs.Memory.{Memory, memory, Board, board, sectorSize, settingsProtection}
+use Rattle.act.specs.Erasing.{allErased}
+use Rattle.act.specs.Showing.{versionAt}
+use Rattle.act.proofs.LockedLaws.{erased-versions-alike}
+use Rattle.loader.specs.declared.Session.{Session}
+use Rattle.loader.specs.Answers.{CallTold, left}
+use Rattle.loader.specs.Records.{isRecord}
+use Rattle.loader.specs.Starting.{startOf}
+use Rattle.claims.specs.TwoBoards.{Images, Running, settingsOf, started, isStruck, AsClaimed, Flash}
+use Rattle.claims.proofs.Sessions.CallRules.{started-session, started-is-valid}
+
+-- ---- an image, before the alert has struck and after
+
+-- all that may change is erased by a strike, and only by it
+unfoldable pub imageThen : Bool → List ℕ → List ℕ → List ℕ
+imageThen struck protection image = pick struck (eraseAllOf sectorSize protection image) image
+
+module _ (protection image : List ℕ) where
+  image-keeps-length : (struck : Bool) → length (imageThen struck protection image) ≡ length image
+  unfolding imageThen pick
+  image-keeps-length true = erase-all-keeps-length sectorSize protection 0 0 image
+  image-keeps-length false = refl
+
+  -- "a flash byte is 0xFF once three wrong passwords were counted .. and the place is unprotected; else it is as at the start"
+  image-is-as-claimed : (struck : Bool) → AsClaimed struck protection image (imageThen struck protection image)
+  unfolding imageThen pick
+  image-is-as-claimed true place there = erase-all-at sectorSize protection image place there
+  image-is-as-claimed false place there = refl
+
+  -- a second strike finds nothing to erase
+  struck-again : (struck : Bool) → eraseAllOf sectorSize protection (imageThen struck protection image) ≡ imageThen true protection image
+  unfolding imageThen pick
+  struck-again true = erase-all-twice sectorSize protection image
+  struck-again false = refl
+
+-- images of one length that publish the same version do so before and after
+pub versions-stay-alike : (pointer : ℕ) (protection one other : List ℕ) → length one ≡ length other → versionAt pointer one ≡ versionAt pointer other
+    → (struck : Bool) → versionAt pointer (imageThen struck protection one) ≡ versionAt pointer (imageThen struck protection other)
+unfolding imageThen pick
+versions-stay-alike pointer protection one other size same true = erased-versions-alike pointer protection one other size same
+versions-stay-alike pointer protection one other size same false = same
+
+-- ---- a board, by its start and by how it stands
+
+abbrev pub alertOf : Images → ℕ
+alertOf images = settingsOf images .shown .alert
+
+-- what its settings let be done
+abbrev pub lets : Images → Board
+lets images = board (length (images .main)) (settingsOf images .shown) (settingsOf images .protection)
+
+-- its images, its session, and all of it
+abbrev pub memoryThen : Images → Bool → Memory
+memoryThen images struck =
+    memory (imageThen struck (settingsOf images .protection) (images .main))
+    (imageThen struck (settingsProtection (settingsOf images .shown)) (images .settings))
+
+abbrev pub sessionThen : Images → Standing → Session
+sessionThen images standing = record { standing = standing; «main_size» = length (images .main); settings = settingsOf images }
+
+abbrev pub later : Images → Standing → Running
+later images standing =
+    record { session = sessionThen images standing; memory = memoryThen images (isStruck (alertOf images) standing) }
+
+-- the record is valid beside the images
+abbrev pub HasRecord : Running → Type 0
+HasRecord board = isRecord (board .session) (length (board .memory .main)) (length (board .memory .settings)) ≡ true
+
+-- a board that stands locked, in a valid record
+pub record Locked (images : Images) (standing : Standing) : Type 0 where
+  pub valid : HasRecord (later images standing)
+  pub shut : isUnlocked (standing .phase) ≡ false
+
+module _ (images : Images) where
+  -- a strike erases both images, whether it is the first or not
+  pub strike-erases : (struck : Bool) → allErased (lets images) (memoryThen images struck) ≡ memoryThen images true
+  strike-erases struck = ap₂ memory (struck-again _ _ struck) (struck-again _ _ struck)
+
+  -- what is claimed of a board's flash after a call
+  pub flash-is-as-claimed : (told : CallTold) (standing : Standing) (area : List ℕ)
+      → Flash images (left told (sessionThen images standing) (later images standing .memory) area)
+  flash-is-as-claimed told standing area =
+      record {
+        mainSize = image-keeps-length _ _ _;
+        main = image-is-as-claimed _ _ _;
+        settingsSize = image-keeps-length _ _ _;
+        settings = image-is-as-claimed _ _ _;
+      }
+
+  -- a session that starts has counted no wrong password
+  not-struck-at-start : isStruck (alertOf images) atStart ≡ false
+  unfolding isStruck atStart
+  not-struck-at-start = by-test (eqb (alertOf images) alertReset) (λ y. pick-true _ _ y) (λ n. pick-false _ _ n)
+
+  module _ (starts : startOf false (images .main) (images .settings) .answer .number ≡ 0) where
+    -- it is as at the start, locked and in a valid record
+    pub started-is-later : started images ≡ later images atStart
+    unfolding imageThen pick
+    started-is-later =
+        ap₂ (λ (session : Session) (memory : Memory). record { session = session; memory = memory })
+        (started-session false (images .main) (images .settings) starts)
+        (ap (memoryThen images) (sym not-struck-at-start))
+
+    pub started-is-locked : Locked images atStart
+    unfolding atStart
+    started-is-locked =
+        record { valid = subst HasRecord started-is-later (started-is-valid false (images .main) (images .settings) starts); shut = refl }

@@ -1,0 +1,130 @@
+-- A call on a locked board, by a packet without its password: all that it leaves follows from the board's start and from how it stands.
+use mathlib.Core.Path.{_≡_, refl, sym, ap, ap₂, subst, _∙_}
+use mathlib.Core.Bool.{Bool, true, false, true≢false}
+use mathlib.Core.List.{List, []}
+use Prim.Native.Nat.{ℕ, _≤_}
+use borrow.Author.Tests.{eq-eqb, eqb-true}
+use lib.Dec.{eqb}
+use lib.ListN.{length}
+use Rattle.octets.specs.Choice.{pick}
+use Rattle.octets.proofs.Searching.{pick-true, pick-false, by-test}
+use Rattle.wire.specs.Codes.{replyLimit}
+use Rattle.replies.specs.Replies.{replyBytes, Sent}
+use Rattle.standing.specs.declared.Standing.{Standing}
+use Rattle.standing.specs.Phases.{isUnlocked}
+use Rattle.judge.specs.declared.Effect.{Effect}
+use Rattle.judge.specs.declared.Effect.the-variants.{Strike}
+use Rattle.judge.specs.declared.Judged.{Judged}
+use Rattle.judge.specs.Unlocking.{alertReset}
+use Rattle.judge.specs.Hearing.{judgedOf}
+use Rattle.judge.proofs.JudgeLaws.{isPerformed, wrong-never-unlocks, locked-performs-nothing, strikes-at-three}
+use Rattle.judge.proofs.StrangerLaws.{only-unlock-is-compared, no-third-without-strike}
+use Rattle.act.specs.Memory.{Memory, Acted}
+use Rattle.act.specs.Answering.{hushed, answerOf}
+use Rattle.act.proofs.AnsweringLaws.{whole, act-is-told-whole}
+use Rattle.act.proofs.LockedLaws.{only-strikes-change, no-bytes-asked}
+use Rattle.loader.specs.Answers.{Left, left, callTold}
+use Rattle.loader.specs.Calling.{judgement, deed, carriedOut, serveOf}
+use Rattle.loader.proofs.RecordLaws.{record-by-clauses}
+use Rattle.claims.specs.TwoBoards.{Images, settingsOf, Carries, Sending, called, next, isStruck}
+use Rattle.claims.proofs.Sessions.CallRules.{not-found, valid-is-served, valid-stays-valid}
+use Rattle.claims.proofs.Secrecy.LockedBoard.{alertOf, lets, memoryThen, sessionThen, later, HasRecord, Locked, strike-erases}
+
+-- what is decided of a packet without the password
+abbrev pub verdict : Images → Standing → Sending → Judged
+verdict images standing sending = judgedOf standing (alertOf images) (sending .wait) (sending .packet) false
+
+-- what the board does then, and the bytes that it sends
+abbrev pub deedThen : Images → Standing → Sending → Effect → Acted
+deedThen images standing sending effect = deed (sessionThen images standing) (sending .packet) (later images standing .memory) effect
+
+abbrev pub bytesThen : Images → Standing → Sending → Effect → List ℕ
+bytesThen images standing sending effect = replyBytes (hushed (sending .packet) (deedThen images standing sending effect .reply)) []
+
+-- all that the call leaves
+abbrev pub leftThen : Images → Standing → Sending → List ℕ → Judged → Left
+leftThen images standing sending area judged =
+    left (callTold 0 (length (bytesThen images standing sending (judged .effect))) (judged .burn))
+    (sessionThen images (judged .standing)) (later images (judged .standing) .memory)
+    (whole (bytesThen images standing sending (judged .effect)) area .area)
+
+module _ (images : Images) (standing : Standing) (locked : Locked images standing) (sending : Sending) where
+  abbrev alert : ℕ
+  alert = alertOf images
+
+  abbrev decided : Judged
+  decided = verdict images standing sending
+
+  -- no protected command is performed
+  pub performs-nothing : isPerformed (decided .effect) ≡ false
+  performs-nothing = locked-performs-nothing standing alert (sending .wait) (sending .packet) false (locked .shut)
+
+  -- ---- both images
+
+  -- a strike comes with the third wrong password
+  strike-is-counted : decided .effect ≡ Strike → isStruck alert (decided .standing) ≡ true
+  unfolding isStruck
+  strike-is-counted e =
+      let three = strikes-at-three standing alert (sending .wait) (sending .packet) false e in
+      pick-true _ _ (eq-eqb _ _ (three .0)) ∙ eq-eqb _ _ (three .1)
+
+  -- and the third wrong password with a strike
+  count-is-kept : (decided .effect ≡ Strike → ⊥) → isStruck alert (decided .standing) ≡ isStruck alert standing
+  unfolding isStruck
+  count-is-kept none =
+      by-test (eqb alert alertReset)
+      (λ y.
+      ap (λ (third : Bool). pick (eqb alert alertReset) third false)
+      (no-third-without-strike standing alert (sending .wait) (sending .packet) (record-by-clauses _ _ _ (locked .valid) .standing) (eqb-true _ _ y) none))
+      (λ n. pick-false _ _ n ∙ sym (pick-false _ _ n))
+
+  -- so what is done to them follows from how the board then stands
+  memory-follows : deedThen images standing sending (decided .effect) .memory ≡ later images (decided .standing) .memory
+  memory-follows =
+      only-strikes-change (lets images) _ (sending .packet) _ (λ memory. memory ≡ later images (decided .standing) .memory) (decided .effect) performs-nothing
+      (λ e. strike-erases images _ ∙ ap (memoryThen images) (sym (strike-is-counted e)))
+      (λ none. ap (memoryThen images) (sym (count-is-kept none)))
+
+  -- ---- the call
+
+  module _ (area : List ℕ) (stranger : Carries (sending .packet) (settingsOf images .password) → ⊥) (room : replyLimit ≤ length area) where
+    -- the packet is judged by a wrong password
+    judged-as-wrong : judgement (sessionThen images standing) (sending .wait) (sending .packet) ≡ decided
+    judged-as-wrong =
+        only-unlock-is-compared alert _ (sending .packet) (not-found (sending .packet) (settingsOf images .password) stranger) standing (sending .wait)
+
+    abbrev does : Acted
+    does = deedThen images standing sending (decided .effect)
+
+    -- the reply is sent whole, with no bytes of memory beside it
+    told-whole : answerOf (decided .effect) (does .reply) (sending .packet) (length (images .main)) (does .memory) area
+        ≡ whole (bytesThen images standing sending (decided .effect)) area
+    told-whole =
+        act-is-told-whole (lets images) _ (sending .packet) _ (does .memory) area room (decided .effect)
+        ∙ ap (λ (beside : List ℕ). whole (replyBytes (hushed (sending .packet) (does .reply)) beside) area)
+        (no-bytes-asked (length (images .main)) (does .memory) (decided .effect) performs-nothing)
+
+    -- all that the call leaves follows from the verdict
+    pub call-is : called (later images standing) sending area ≡ leftThen images standing sending area (verdict images standing sending)
+    unfolding serveOf
+    call-is =
+        valid-is-served (sessionThen images standing) (later images standing .memory) (sending .wait) (sending .packet) area (locked .valid) room
+        ∙ ap (carriedOut (sessionThen images standing) (later images standing .memory) (sending .packet) area) judged-as-wrong
+        ∙ ap₂ (λ (sent : Sent) (memory : Memory). left (callTold 0 (sent .size) (decided .burn)) (sessionThen images (decided .standing)) memory (sent .area))
+        told-whole memory-follows
+
+    -- without the password a locked session stays locked
+    stays-shut : isUnlocked (decided .standing .phase) ≡ false
+    stays-shut =
+        by-test (isUnlocked (decided .standing .phase))
+        (λ y. absurd (true≢false (sym (wrong-never-unlocks standing alert (sending .wait) (sending .packet) false refl y) ∙ locked .shut)))
+        (λ n. n)
+
+    -- the board stands as the next call wants it
+    pub stays-locked : Locked images (verdict images standing sending .standing)
+    stays-locked = record {
+      valid =
+          subst (λ (left : Left). HasRecord (next left)) call-is
+          (valid-stays-valid (sessionThen images standing) (later images standing .memory) (sending .wait) (sending .packet) area (locked .valid));
+      shut = stays-shut;
+    }

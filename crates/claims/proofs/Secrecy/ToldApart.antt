@@ -1,0 +1,119 @@
+-- Demand 3: "Two boards alike but for passwords and flash contents (version bytes excepted) cannot be told apart by anyone without a password".
+-- Both boards follow from their start and from how they stand, and at every call they stand alike.
+use mathlib.Core.Path.{_≡_, refl, sym, ap, ap₂, subst, _∙_}
+use mathlib.Core.Bool.{false}
+use mathlib.Core.List.{List, [], _∷_}
+use Prim.Native.Nat.{ℕ}
+use lib.ListN.{length}
+use lib.Seq.{take-append-seam}
+use Rattle.replies.specs.declared.Reply.{Reply}
+use Rattle.replies.specs.Replies.{replyBytes}
+use Rattle.standing.specs.declared.Standing.{Standing}
+use Rattle.standing.specs.Phases.{atStart, isUnlocked}
+use Rattle.values.specs.declared.Shown.{Shown}
+use Rattle.judge.specs.declared.Effect.{Effect}
+use Rattle.judge.specs.declared.Judged.{Judged}
+use Rattle.judge.specs.Hearing.{judgedOf}
+use Rattle.judge.proofs.JudgeLaws.{isPerformed}
+use Rattle.act.specs.Showing.{versionAt}
+use Rattle.act.specs.Answering.{hushed}
+use Rattle.act.proofs.LockedLaws.{told-alike}
+use Rattle.loader.specs.Answers.{callTold}
+use Rattle.claims.specs.TwoBoards.{Images, settingsOf, started, AlikeBoards, Sending, WithoutPassword, called, isStruck, Alike, AlikeThroughout}
+use Rattle.claims.proofs.Secrecy.LockedBoard.{imageThen, versions-stay-alike, alertOf, lets, later, Locked, flash-is-as-claimed, started-is-later, started-is-locked}
+use Rattle.claims.proofs.Secrecy.LockedCall.{verdict, bytesThen, leftThen, performs-nothing, call-is, stays-locked}
+
+-- both boards stand locked, and alike
+record Together (one other : Images) (standing : Standing) : Type 0 where
+  oneLocked : Locked one standing
+  otherLocked : Locked other standing
+
+module _ (one other : Images) (alike : AlikeBoards one other) where
+  -- ---- what both share
+
+  alert-alike : alertOf one ≡ alertOf other
+  alert-alike = ap (λ (shown : Shown). shown .alert) (alike .shown)
+
+  -- the same packet is judged alike
+  verdict-alike : (standing : Standing) (sending : Sending) → verdict other standing sending ≡ verdict one standing sending
+  verdict-alike standing sending = ap (λ (alert : ℕ). judgedOf standing alert (sending .wait) (sending .packet) false) (sym alert-alike)
+
+  -- the version that is published stays the same, also where the alert has struck
+  version-alike : (standing : Standing)
+      → versionAt (settingsOf one .shown .«version_pointer») (later one standing .memory .main)
+      ≡ versionAt (settingsOf other .shown .«version_pointer») (later other standing .memory .main)
+  version-alike standing =
+      let same = alike .version ∙ ap (λ (shown : Shown). versionAt (shown .«version_pointer») (other .main)) (sym (alike .shown)) in
+      versions-stay-alike _ (settingsOf one .protection) (one .main) (other .main) (alike .size) same (isStruck (alertOf one) standing)
+      ∙ ap₂ (λ (shown : Shown) (protection : List ℕ). versionAt (shown .«version_pointer») (imageThen (isStruck (shown .alert) standing) protection (other .main)))
+      (alike .shown) (alike .protection)
+
+  -- ---- one call
+
+  module _ (standing : Standing) (sending : Sending) where
+    -- the same effect is told in the same bytes
+    bytes-alike : (effect : Effect) → isPerformed effect ≡ false → bytesThen one standing sending effect ≡ bytesThen other standing sending effect
+    bytes-alike effect nothing =
+        ap (λ (reply : Reply). replyBytes (hushed (sending .packet) reply) [])
+        (told-alike (lets one) (lets other) _ _ (sending .packet) _ _ (alike .shown) (version-alike standing) effect nothing)
+
+    -- what two calls leave that decide alike
+    left-alike : (judged : Judged) → isPerformed (judged .effect) ≡ false → isUnlocked (judged .standing .phase) ≡ false
+        → Alike one other (leftThen one standing sending (sending .oneArea) judged) (leftThen other standing sending (sending .otherArea) judged)
+    left-alike judged nothing shut =
+        let same = bytes-alike (judged .effect) nothing in
+        record {
+          served = refl;
+          answers = ap (λ (bytes : List ℕ). callTold 0 (length bytes) (judged .burn)) same;
+          replies = take-append-seam _ _ ∙ same ∙ sym (take-append-seam _ _);
+          standing = refl;
+          locked = shut;
+          oneFlash = flash-is-as-claimed one _ (judged .standing) _;
+          otherFlash = flash-is-as-claimed other _ (judged .standing) _;
+        }
+
+  module _ (standing : Standing) (together : Together one other standing) (sending : Sending) (without : WithoutPassword one other sending) where
+    -- what both decide
+    abbrev decided : Judged
+    decided = verdict one standing sending
+
+    -- what both calls leave
+    one-is : called (later one standing) sending (sending .oneArea) ≡ leftThen one standing sending (sending .oneArea) decided
+    one-is = call-is one standing (together .oneLocked) sending (sending .oneArea) (without .notOne) (without .oneRoom)
+
+    other-is : called (later other standing) sending (sending .otherArea) ≡ leftThen other standing sending (sending .otherArea) decided
+    other-is =
+        call-is other standing (together .otherLocked) sending (sending .otherArea) (without .notOther) (without .otherRoom)
+        ∙ ap (leftThen other standing sending (sending .otherArea)) (verdict-alike standing sending)
+
+    stay-together : Together one other (decided .standing)
+    stay-together = record {
+      oneLocked = stays-locked one standing (together .oneLocked) sending (sending .oneArea) (without .notOne) (without .oneRoom);
+      otherLocked =
+          subst (λ (judged : Judged). Locked other (judged .standing)) (verdict-alike standing sending)
+          (stays-locked other standing (together .otherLocked) sending (sending .otherArea) (without .notOther) (without .otherRoom));
+    }
+
+    call-alike : Alike one other (called (later one standing) sending (sending .oneArea)) (called (later other standing) sending (sending .otherArea))
+    call-alike =
+        rw (one-is, other-is)
+        (left-alike standing sending decided (performs-nothing one standing (together .oneLocked) sending) (stay-together .oneLocked .shut))
+
+  -- ---- any list of calls
+
+  alike-from : (sendings : List Sending) (standing : Standing) → Together one other standing
+      → AlikeThroughout one other (later one standing) (later other standing) sendings
+  alike-from [] standing together = tt
+  alike-from (sending ∷ sendings) standing together = λ without. (
+    call-alike standing together sending without,
+    rw (one-is standing together sending without, other-is standing together sending without)
+        (alike-from sendings _ (stay-together standing together sending without)),
+  )
+
+-- over any one session, at every point of it
+pub two-boards-are-alike : (one other : Images) → AlikeBoards one other → (sendings : List Sending)
+    → AlikeThroughout one other (started one) (started other) sendings
+two-boards-are-alike one other alike sendings =
+    rw (started-is-later one (alike .oneStarts), started-is-later other (alike .otherStarts))
+    (alike-from one other alike sendings atStart
+    (record { oneLocked = started-is-locked one (alike .oneStarts); otherLocked = started-is-locked other (alike .otherStarts) }))

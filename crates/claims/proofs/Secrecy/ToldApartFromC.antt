@@ -1,0 +1,220 @@
+-- Demand 3 as C sees it. A record area says all of its session, so what holds of two boards by their sessions holds of them by their areas.
+use mathlib.Core.Path.{_≡_, refl, sym, ap, ap₂, _∙_}
+use mathlib.Core.Bool.{Bool, true, false, true≢false, not}
+use mathlib.Core.List.{List, [], _∷_, _++_}
+use Prim.Native.Nat.{ℕ, _%_, _≤_, _<_}
+use native.Mathlib.Omega.{arith}
+use borrow.Author.Tests.{le-ltb, eq-eqb}
+use lib.ListN.{length, take}
+use Rattle.octets.specs.Choice.{pick}
+use Rattle.octets.specs.Number.{bytesOf}
+use Rattle.octets.proofs.Searching.{pick-true, pick-false}
+use Rattle.wire.specs.Codes.{replyLimit}
+use Rattle.standing.specs.declared.Phase.{Phase}
+use Rattle.standing.specs.declared.Phase.the-variants.{Detect, Command, Standby, Ended, Disabled}
+use Rattle.standing.specs.declared.Standing.{Standing}
+use Rattle.standing.specs.Phases.{isUnlocked}
+use Rattle.layout.specs.Layout.{form1}
+use Rattle.settings.specs.Answer.{numbered}
+use Rattle.settings.specs.Reader.{readOf}
+use Rattle.loader.specs.declared.Session.{Session}
+use Rattle.loader.specs.Answers.{CallTold, Left}
+use Rattle.loader.specs.Starting.{startOf}
+use Rattle.loader.specs.Calling.{serveOf, callOf}
+use Rattle.loader.proofs.CallLaws.{every-call, call-size-fits}
+use Rattle.loader.proofs.RecordLaws.{record-by-clauses}
+use Rattle.rig.specs.Records.{recordSize, lockCode, standingBytes, recordOf}
+use Rattle.rig.specs.Boundary.{refusalUnit, burnUnit, oneNumber, Stored, stored, storedBy, Called, storedAfter, calledFrom, calledAfter, callFromC}
+use Rattle.claims.specs.Held.{Held}
+use Rattle.claims.specs.TwoBoards.{Images, Running, settingsOf, started, AlikeBoards, Sending, called, next, replied, isStruck, Flash, Alike, AlikeThroughout}
+use Rattle.claims.specs.TwoBoardsFromC.{RunningFromC, startedOn, startedFromC, Lent, calledFromC, repliedFromC, standsFromC, lockIn, isStruckFromC, FlashFromC, AlikeFromC, AlikeCallsFromC, AlikeSessionsFromC}
+use Rattle.claims.proofs.Sessions.CallRules.{every-start, valid-is-served, valid-stays-valid, started-is-valid, started-session}
+use Rattle.claims.proofs.Sessions.RecordRule.{decode-after-encode, encoded-is-record}
+use Rattle.claims.proofs.Secrecy.LockedBoard.{HasRecord}
+use Rattle.claims.proofs.Sessions.HeldSessions.{read-is-held, valid-is-held}
+use Rattle.claims.proofs.Secrecy.ToldApart.{two-boards-are-alike}
+
+-- ---- a board, as C has it
+
+abbrev fromC : Running → RunningFromC
+fromC board = record { area = recordOf (board .session); memory = board .memory }
+
+-- what a call leaves, as C has it
+abbrev leftFromC : Left → Called
+leftFromC left =
+    record {
+      answer = oneNumber 0 (left .answer .burn) (left .answer .size);
+      area = recordOf (left .session);
+      memory = left .memory;
+      reply = left .area;
+    }
+
+-- a board whose record is valid, and whose settings can be held
+record Sound (board : Running) : Type 0 where
+  valid : HasRecord board
+  held : Held (board .session .settings)
+
+module _ (board : Running) (sound : Sound board) (sending : Sending) (reply : List ℕ) where
+  abbrev after : Left
+  after = called board sending reply
+
+  sound-then : Sound (next after)
+  unfolding serveOf
+  sound-then = record {
+    valid = valid-stays-valid (board .session) (board .memory) (sending .wait) (sending .packet) reply (sound .valid);
+    held =
+        every-call (board .session) (board .memory) (sending .wait) (sending .packet) reply (λ left. Held (left .session .settings))
+        (λ number. sound .held) (sound .held);
+  }
+
+  module _ (room : replyLimit ≤ length reply) where
+    served : after .answer .number ≡ 0
+    unfolding serveOf
+    served =
+        ap (λ (left : Left). left .answer .number)
+        (valid-is-served (board .session) (board .memory) (sending .wait) (sending .packet) reply (sound .valid) room)
+
+    -- a call from C does what the call on the session does
+    call-from-C : calledFromC (fromC board) sending reply ≡ leftFromC after
+    unfolding callFromC storedAfter
+    call-from-C =
+        let held = valid-is-held (board .session) _ _ (sound .valid) (sound .held) in
+        pick-false _ _ (le-ltb (length reply) replyLimit room)
+        ∙ pick-false _ _ (ap not (encoded-is-record (board .session) held))
+        ∙ ap (λ (session : Session). calledAfter (recordOf (board .session)) (callOf session (board .memory) (sending .wait) (sending .packet) reply))
+        (decode-after-encode (board .session) held)
+        ∙ ap (λ (told : Stored). calledFrom told after) (pick-true _ _ (eq-eqb _ _ served))
+
+-- ---- what a record area and a number say
+
+stands-are : (session : Session) → standsFromC (recordOf session) ≡ standingBytes (session .standing) ++ bytesOf 4 (session .«main_size»)
+unfolding recordOf bytesOf
+stands-are session = refl
+
+locked-says-0 : (phase : Phase) → isUnlocked phase ≡ false → lockCode phase ≡ 0
+unfolding pick
+locked-says-0 Detect h = refl
+locked-says-0 (Command true sleep) h = absurd (true≢false h)
+locked-says-0 (Command false sleep) h = refl
+locked-says-0 Standby h = refl
+locked-says-0 Ended h = refl
+locked-says-0 Disabled h = refl
+
+lock-is-0 : (session : Session) → isUnlocked (session .standing .phase) ≡ false → lockIn (recordOf session) ≡ 0
+unfolding recordOf
+lock-is-0 session shut = locked-says-0 (session .standing .phase) shut
+
+struck-is : (alert : ℕ) (session : Session) → isStruckFromC alert (recordOf session) ≡ isStruck alert (session .standing)
+unfolding isStruckFromC isStruck recordOf
+struck-is alert session = refl
+
+-- the top byte of a call's number is 0, and its low half is the size
+number-says : (burn : Bool) (size : ℕ) → size ≤ 1729 → (oneNumber 0 burn size < refusalUnit) × (oneNumber 0 burn size % burnUnit ≡ size)
+unfolding pick
+number-says true size h = (omega arith, omega arith)
+number-says false size h = (omega arith, omega arith)
+
+-- ---- one call
+
+-- what is claimed of a board's flash
+flash-from-C : (images : Images) (left : Left) → Flash images left → FlashFromC images (leftFromC left)
+flash-from-C images left flash =
+    let same = struck-is (settingsOf images .shown .alert) (left .session) in
+    record {
+      mainSize = flash .mainSize;
+      main = rw same (flash .main);
+      settingsSize = flash .settingsSize;
+      settings = rw same (flash .settings);
+    }
+
+-- the size of MAIN in a valid record is that at the start
+main-size-is : (images : Images) (left : Left) → Sound (next left) → Flash images left → left .session .«main_size» ≡ length (images .main)
+main-size-is images left sound flash = sym (record-by-clauses _ _ _ (sound .valid) .main) ∙ flash .mainSize
+
+stands-alike : (one other : Session) → one .standing ≡ other .standing → one .«main_size» ≡ other .«main_size»
+    → standsFromC (recordOf one) ≡ standsFromC (recordOf other)
+stands-alike one other standing size =
+    stands-are one ∙ ap₂ (λ (stands : Standing) (main : ℕ). standingBytes stands ++ bytesOf 4 main) standing size ∙ sym (stands-are other)
+
+replied-is : (left : Left) → left .answer .size ≤ 1729 → repliedFromC (leftFromC left) ≡ replied left
+replied-is left fits = ap (λ (size : ℕ). take size (left .area)) (number-says (left .answer .burn) (left .answer .size) fits .1)
+
+module _ (one other : Images) (size : length (one .main) ≡ length (other .main)) (oneLeft otherLeft : Left) where
+  -- what is alike by the sessions is alike by the areas
+  alike-from-C : Alike one other oneLeft otherLeft → Sound (next oneLeft) → Sound (next otherLeft)
+      → oneLeft .answer .size ≤ 1729 → otherLeft .answer .size ≤ 1729
+      → AlikeFromC one other (leftFromC oneLeft) (leftFromC otherLeft)
+  alike-from-C alike oneSound otherSound oneFits otherFits =
+      let sizes = main-size-is one oneLeft oneSound (alike .oneFlash) ∙ size ∙ sym (main-size-is other otherLeft otherSound (alike .otherFlash)) in
+      record {
+        served = number-says (oneLeft .answer .burn) (oneLeft .answer .size) oneFits .0;
+        answers = ap (λ (told : CallTold). oneNumber 0 (told .burn) (told .size)) (alike .answers);
+        replies = replied-is oneLeft oneFits ∙ alike .replies ∙ sym (replied-is otherLeft otherFits);
+        stands = stands-alike (oneLeft .session) (otherLeft .session) (alike .standing) sizes;
+        locked = lock-is-0 (oneLeft .session) (alike .locked);
+        oneFlash = flash-from-C one oneLeft (alike .oneFlash);
+        otherFlash = flash-from-C other otherLeft (alike .otherFlash);
+      }
+
+-- ---- any list of calls
+
+module _ (one other : Images) (size : length (one .main) ≡ length (other .main)) where
+  calls-alike : (sendings : List Sending) (oneNow otherNow : Running) → Sound oneNow → Sound otherNow
+      → AlikeThroughout one other oneNow otherNow sendings → AlikeCallsFromC one other (fromC oneNow) (fromC otherNow) sendings
+  calls-alike [] oneNow otherNow oneSound otherSound through = tt
+  calls-alike (sending ∷ sendings) oneNow otherNow oneSound otherSound through = λ without.
+      let here = through without in
+      let oneThen = sound-then oneNow oneSound sending (sending .oneArea) in
+      let otherThen = sound-then otherNow otherSound sending (sending .otherArea) in
+      let oneIs = call-from-C oneNow oneSound sending (sending .oneArea) (without .oneRoom) in
+      let otherIs = call-from-C otherNow otherSound sending (sending .otherArea) (without .otherRoom) in
+      rw (oneIs, otherIs) (
+        alike-from-C one other size _ _ (here .0) oneThen otherThen
+            (call-size-fits (oneNow .session) (oneNow .memory) (sending .wait) (sending .packet) (sending .oneArea))
+            (call-size-fits (otherNow .session) (otherNow .memory) (sending .wait) (sending .packet) (sending .otherArea)),
+        calls-alike sendings _ _ oneThen otherThen (here .1),
+      )
+
+-- ---- start
+
+-- a start that answers 0 names no entry, and its settings were accepted
+start-accepts : (main settings : List ℕ) → startOf false main settings .answer .number ≡ 0
+    → (startOf false main settings .answer ≡ numbered 0 0) × (readOf form1 settings .number ≡ 0)
+start-accepts main settings =
+    every-start false main settings (λ told. (told .answer ≡ numbered 0 0) × (readOf form1 settings .number ≡ 0)) (λ size read. (refl, read))
+
+module _ (images : Images) (area : List ℕ) (lent : Lent images area) (starts : startOf false (images .main) (images .settings) .answer .number ≡ 0) where
+  start-from-C : startedOn images area ≡ stored 0 (recordOf (started images .session))
+  unfolding storedBy pick
+  start-from-C =
+      rw (start-accepts (images .main) (images .settings) starts .0, eq-eqb (length area) recordSize (lent .size))
+
+  started-from-C : startedFromC images area ≡ fromC (started images)
+  started-from-C = ap (λ (left : Stored). record { area = left .area; memory = images }) start-from-C
+
+  started-is-sound : Sound (started images)
+  started-is-sound = record {
+    valid = started-is-valid false (images .main) (images .settings) starts;
+    held =
+        rw (started-session false (images .main) (images .settings) starts)
+        (read-is-held (images .settings) (lent .bytes) (start-accepts (images .main) (images .settings) starts .1));
+  }
+
+-- over any one session from C, at every point of it
+pub two-boards-are-alike-from-C : (one other : Images) (oneArea otherArea : List ℕ) → AlikeBoards one other → Lent one oneArea → Lent other otherArea
+    → (sendings : List Sending) → AlikeSessionsFromC one other oneArea otherArea sendings
+two-boards-are-alike-from-C one other oneArea otherArea alike oneLent otherLent sendings =
+    let oneIs = start-from-C one oneArea oneLent (alike .oneStarts) in
+    let otherIs = start-from-C other otherArea otherLent (alike .otherStarts) in
+    record {
+      oneStarts = ap (λ (left : Stored). left .answer) oneIs;
+      otherStarts = ap (λ (left : Stored). left .answer) otherIs;
+      stands =
+          rw (oneIs, otherIs, started-session false (one .main) (one .settings) (alike .oneStarts), started-session false (other .main) (other .settings) (alike .otherStarts))
+          (stands-alike _ _ refl (alike .size));
+      calls =
+          rw (started-from-C one oneArea oneLent (alike .oneStarts), started-from-C other otherArea otherLent (alike .otherStarts))
+          (calls-alike one other (alike .size) sendings (started one) (started other)
+          (started-is-sound one oneArea oneLent (alike .oneStarts)) (started-is-sound other otherArea otherLent (alike .otherStarts))
+          (two-boards-are-alike one other alike sendings));
+    }

@@ -1,0 +1,11 @@
+-- What holds of every start, call, record and script.
+-- CallRules: what holds of every start and of every call.
+pub mod CallRules
+-- HeldSessions: a valid session whose settings were read of bytes can be held.
+pub mod HeldSessions
+-- RecordRule: a session record is encoded and decoded by one rule.
+pub mod RecordRule
+-- BoundaryRule: from C, a refused call changes nothing.
+pub mod BoundaryRule
+-- ScriptRule: a script keeps the form exactly where it is made of entries.
+pub mod ScriptRule

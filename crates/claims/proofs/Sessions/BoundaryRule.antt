@@ -1,0 +1,101 @@
+-- 01, Numbers of refused calls: "each changes nothing lent". From C, where the top byte of the answer is not 0, every area is as it was.
+use mathlib.Core.Path.{_≡_, refl, sym, ap, _∙_}
+use mathlib.Core.Bool.{Bool, true≢false, not}
+use mathlib.Core.List.{List}
+use Prim.Native.Nat.{ℕ, _+_, _*_, _≤_}
+use native.Mathlib.Omega.{arith}
+use borrow.Author.Tests.{eq-eqb}
+use lib.Dec.{ltb, eqb}
+use lib.ListN.{length, getD}
+use Rattle.octets.specs.Choice.{pick}
+use Rattle.octets.proofs.Searching.{by-pick}
+use Rattle.wire.specs.Codes.{replyLimit}
+use Rattle.values.specs.declared.Settings.{Settings}
+use Rattle.values.specs.Values.{isAllowed}
+use Rattle.layout.specs.Layout.{form1, imageSize}
+use Rattle.fields.specs.Bodies.{bodiesOf}
+use Rattle.fields.specs.Fields.{fieldsRead}
+use Rattle.settings.specs.Image.{imageOf}
+use Rattle.settings.specs.Answer.{Numbered, numbered, WriteLeft, writeLeft}
+use Rattle.settings.specs.Reader.{readOf}
+use Rattle.settings.specs.Writer.{writeOf}
+use Rattle.act.specs.Memory.{Memory}
+use Rattle.loader.specs.Answers.{Left}
+use Rattle.loader.specs.Calling.{callOf}
+use Rattle.loader.proofs.CallLaws.{refused-changes-nothing, call-size-fits}
+use Rattle.rig.specs.Records.{recordSize, fieldsSize, recordOf, sessionIn, isRecordArea}
+use Rattle.rig.specs.Boundary.{refusalUnit, burnUnit, oneNumber, refusal, refusalOf, Stored, storedBy, startByFuse, startFromC, readFromC, writeFromC, zeroAt, Called, called, storedAfter, calledFrom, calledAfter, callFromC}
+
+-- the top byte of eight is not 0
+abbrev Refused : ℕ → Type 0
+Refused answer = refusalUnit ≤ answer
+
+-- an area is as it was, if the call was refused
+abbrev Kept : List ℕ → Stored → Type 0
+Kept area left = Refused (left .answer) → left .area ≡ area
+
+-- ---- start, and the settings reader
+
+storing-keeps : (told : Numbered) (size : ℕ) (bytes area : List ℕ) → Kept area (storedBy told size bytes area)
+unfolding storedBy
+storing-keeps told size bytes area =
+    by-pick (Kept area) (not (eqb (refusalOf told) 0)) _ _ (λ y h. refl)
+    (λ n. by-pick (Kept area) (not (eqb (length area) size)) _ _ (λ y h. refl) (λ m h. absurd (omega arith)))
+
+pub refused-start-keeps : (fuse : ℕ) (main settings area : List ℕ) → Kept area (startFromC fuse main settings area)
+refused-start-keeps fuse main settings area =
+    storing-keeps (startByFuse fuse main settings .answer) recordSize (recordOf (startByFuse fuse main settings .session)) area
+
+pub refused-read-keeps : (image area : List ℕ) → Kept area (readFromC image area)
+refused-read-keeps image area =
+    storing-keeps (numbered (readOf form1 image .number) (readOf form1 image .entry)) fieldsSize (bodiesOf (readOf form1 image .settings)) area
+
+-- ---- the settings writer
+
+writer-keeps : (settings : Settings) (area : List ℕ) → (writeOf form1 settings area .number ≡ 0 → ⊥) → writeOf form1 settings area .image ≡ area
+unfolding writeOf
+writer-keeps settings area =
+    by-pick Same (not (eqb (length area) imageSize)) (writeLeft 3 area) _ (λ y h. refl)
+    (λ n. by-pick Same (not (isAllowed (settings .shown))) (writeLeft 8 area) (writeLeft 0 (imageOf form1 settings)) (λ y h. refl) (λ m h. absurd (h refl)))
+  where
+    Same : WriteLeft → Type 0
+    Same left = (left .number ≡ 0 → ⊥) → left .image ≡ area
+
+pub refused-write-keeps : (fields image : List ℕ) → Kept image (writeFromC fields image)
+unfolding writeFromC pick
+refused-write-keeps fields image =
+    by-pick (Kept image) (not (eqb (length image) imageSize)) _ _ (λ y h. refl)
+    (λ n. by-pick (Kept image) (not (eqb (length fields) fieldsSize)) _ _ (λ y h. refl)
+    (λ n. by-pick (Kept image) (not (eqb (getD fields zeroAt 0) 0)) _ _ (λ y h. refl)
+    (λ n h. writer-keeps (fieldsRead form1 fields) image (λ e. omega arith))))
+
+-- ---- a call
+
+module _ (area : List ℕ) (before : Memory) (wait : ℕ) (packet reply : List ℕ) where
+  -- all is as it was, if the call was refused
+  abbrev AllKept : Called → Type 0
+  AllKept left = Refused (left .answer) → left ≡ called (left .answer) area before reply
+
+  abbrev left : Left
+  left = callOf (sessionIn area) before wait packet reply
+
+  -- a call that is served answers with less
+  served-is-small : (burn : Bool) → oneNumber 0 burn (left .answer .size) ≤ burnUnit + 1729
+  served-is-small burn =
+      by-pick (λ unit. 0 * refusalUnit + (unit + left .answer .size) ≤ burnUnit + 1729) burn burnUnit 0
+      (λ y. omega (arith, call-size-fits (sessionIn area) before wait packet reply))
+      (λ n. omega (arith, call-size-fits (sessionIn area) before wait packet reply))
+
+  session-keeps : AllKept (calledAfter area left)
+  unfolding storedAfter
+  session-keeps =
+      by-pick (λ after. AllKept (calledFrom after left)) (eqb (left .answer .number) 0) _ _
+      (λ y h. absurd (omega (arith, served-is-small (left .answer .burn))))
+      (λ n h. ap (λ kept. called (refusal (left .answer .number)) area (kept .memory) (kept .area))
+      (refused-changes-nothing (sessionIn area) before wait packet reply (λ e. true≢false (sym (eq-eqb _ _ e) ∙ n))))
+
+  pub refused-call-keeps-all : AllKept (callFromC area before wait packet reply)
+  unfolding callFromC
+  refused-call-keeps-all =
+      by-pick AllKept (ltb (length reply) replyLimit) _ _ (λ y h. refl)
+      (λ n. by-pick AllKept (not (isRecordArea area)) _ _ (λ y h. refl) (λ m. session-keeps))

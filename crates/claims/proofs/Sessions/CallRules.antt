@@ -1,0 +1,194 @@
+-- What holds of every start and of every call, over the definitions that `start` and `call` are proved to meet. That a refused call
+-- changes nothing, and that no reply has more than 1,729 bytes, stands in the loader's own CallLaws.
+use mathlib.Core.Path.{_≡_, refl, sym, ap, subst, _∙_}
+use mathlib.Core.Bool.{Bool, true, false, true≢false, not}
+use mathlib.Core.List.{List, _∷_}
+use mathlib.Core.Logic.{_⊎_, inl, inr}
+use Prim.Native.Nat.{ℕ, _≤_}
+use native.Mathlib.Omega.{arith}
+use borrow.Author.Tests.{le-ltb, eq-eqb, eqb-true, not-false}
+use lib.Dec.{ltb, eqb}
+use lib.ListN.{length, getD}
+use Rattle.octets.specs.Choice.{pick}
+use Rattle.octets.proofs.Searching.{pick-false, pick-both, by-pick, by-test}
+use Rattle.wire.specs.Codes.{acknowledged, unlock, replyLimit}
+use Rattle.wire.specs.Packet.{passwordIn}
+use Rattle.wire.specs.declared.Command.the-variants.{Unlock}
+use Rattle.wire.specs.Acknowledgement.{acknowledgement}
+use Rattle.wire.specs.Commands.{commandOf}
+use Rattle.wire.proofs.PacketLaws.{unlock-is-password}
+use Rattle.standing.specs.declared.Phase.the-variants as phase
+use Rattle.standing.specs.Phases.{mostWrong}
+use Rattle.standing.specs.Waits.{passTime}
+use Rattle.standing.proofs.PhaseLaws.{valid-by-parts, start-is-valid}
+use Rattle.standing.proofs.WaitLaws.{long-wait-is-heard}
+use Rattle.values.specs.Values.{isAllowed, blankSettings}
+use Rattle.layout.specs.Layout.{imageSize, form1}
+use Rattle.layout.specs.Entries.{differingEntry}
+use Rattle.fields.specs.Bodies.{bodyIn, shownIn, settingsIn}
+use Rattle.settings.specs.Answer.{ReadTold, numbered}
+use Rattle.settings.specs.Reader.{isBlank, checksumDiffers, formUnknown, fillerDiffers, valueNotAllowed, readWritten, readOf}
+use Rattle.judge.specs.declared.Judged.{Judged}
+use Rattle.judge.proofs.JudgeLaws.{judge-keeps-valid, wrong-count-rises}
+use Rattle.judge.proofs.StrangerLaws.{only-unlock-is-compared}
+use Rattle.act.specs.Memory.{Memory}
+use Rattle.act.proofs.ActingLaws.{act-keeps-lengths}
+use Rattle.loader.specs.declared.Session.{Session}
+use Rattle.loader.specs.Answers.{StartTold, Left}
+use Rattle.loader.specs.Passwords.{areSame}
+use Rattle.loader.specs.Records.{isMainSize, isRecord}
+use Rattle.loader.specs.Starting.{sessionOf, startRead, startOf}
+use Rattle.loader.specs.Calling.{boardOf, judgement, serveOf, callOf}
+use Rattle.loader.proofs.CallLaws.{every-call}
+use Rattle.loader.proofs.PasswordLaws.{same-are-equal}
+use Rattle.loader.proofs.RecordLaws.{record-by-clauses, clauses-make-record}
+use Rattle.claims.specs.TwoBoards.{Carries}
+
+-- the comparison finds the password only in a packet that carries it
+pub not-found : (packet password : List ℕ) → (Carries packet password → ⊥) → acknowledgement packet ≡ acknowledged → commandOf packet ≡ Unlock
+    → areSame password (passwordIn packet) ≡ false
+not-found packet password stranger fine asked =
+    by-test (areSame password (passwordIn packet))
+    (λ y. absurd
+    (stranger
+    (record {
+      acknowledged = fine;
+      core = unlock-is-password packet fine asked ∙ ap (λ (bytes : List ℕ). unlock ∷ bytes) (sym (same-are-equal _ _ y));
+    })))
+    (λ n. n)
+
+-- a call's number: 0 where it is done, 9 or 10 where it is refused
+abbrev pub Answered : ℕ → Type 0
+Answered number = (number ≡ 0) ⊎ ((number ≡ 9) ⊎ (number ≡ 10))
+
+module _ (session : Session) (before : Memory) (wait : ℕ) (packet area : List ℕ) where
+  abbrev after : Left
+  after = callOf session before wait packet area
+
+  -- a valid record, beside the images that are lent
+  abbrev isValidRecord : Type 0
+  isValidRecord = isRecord session (length (before .main)) (length (before .settings)) ≡ true
+
+  -- every call has an answer: it is done, or refused by 9 or by 10
+  pub call-is-answered : Answered (after .answer .number)
+  unfolding callOf serveOf
+  call-is-answered =
+      by-pick (λ (left : Left). Answered (left .answer .number)) (ltb (length area) replyLimit) _ _ (λ y. inr (inl refl))
+      (λ n. by-pick (λ (left : Left). Answered (left .answer .number)) (not (isRecord session (length (before .main)) (length (before .settings)))) _ _
+      (λ y. inr (inr refl)) (λ n. inl refl))
+
+  -- both images keep their lengths
+  pub call-keeps-lengths : (length (after .memory .main) ≡ length (before .main)) × (length (after .memory .settings) ≡ length (before .settings))
+  unfolding serveOf
+  call-keeps-lengths =
+      every-call session before wait packet area (λ left. (length (left .memory .main) ≡ length (before .main)) × (length (left .memory .settings) ≡ length (before .settings)))
+      (λ number. (refl, refl))
+      (act-keeps-lengths (boardOf session) before _ packet (judgement session wait packet .effect))
+
+  -- a valid record is served, where there is room for a reply
+  pub valid-is-served : isValidRecord → replyLimit ≤ length area → after ≡ serveOf session before wait packet area
+  unfolding callOf
+  valid-is-served valid room =
+      pick-false _ _ (le-ltb (length area) replyLimit room) ∙ pick-false _ _ (ap not valid)
+
+  -- the record that a call gives back is valid again: no sequence of calls leads to a refusal 10
+  pub valid-stays-valid : isValidRecord → isRecord (after .session) (length (after .memory .main)) (length (after .memory .settings)) ≡ true
+  unfolding serveOf
+  valid-stays-valid valid =
+      every-call session before wait packet area (λ left. isRecord (left .session) (length (left .memory .main)) (length (left .memory .settings)) ≡ true)
+      (λ number. valid)
+      (let v = record-by-clauses session _ _ valid in
+      let kept = act-keeps-lengths (boardOf session) before _ packet (judgement session wait packet .effect) in
+      clauses-make-record _ _ _
+      (record {
+        standing = judge-keeps-valid (session .standing) _ wait packet _ (v .standing);
+        values = v .values;
+        mainSize = v .mainSize;
+        settings = kept .1 ∙ v .settings;
+        main = kept .0 ∙ v .main;
+      }))
+
+  -- "count up by one to at most 3"
+  pub wrong-count-is-at-most-3 : isValidRecord → after .session .standing .wrong ≤ mostWrong
+  wrong-count-is-at-most-3 valid =
+      valid-by-parts _ (record-by-clauses _ _ _ (valid-stays-valid valid) .standing) .wrong
+
+  -- the wrong count falls only by a packet that carries the session's password
+  pub wrong-count-falls-by-password : isValidRecord → (Carries packet (session .settings .password) → ⊥)
+      → session .standing .wrong ≤ after .session .standing .wrong
+  unfolding serveOf
+  wrong-count-falls-by-password valid stranger =
+      let alert = session .settings .shown .alert in
+      every-call session before wait packet area (λ left. session .standing .wrong ≤ left .session .standing .wrong) (λ number. omega arith)
+      (subst (λ (judged : Judged). session .standing .wrong ≤ judged .standing .wrong)
+      (sym (only-unlock-is-compared alert _ packet (not-found packet (session .settings .password) stranger) (session .standing) wait))
+      (wrong-count-rises (session .standing) alert wait packet false (record-by-clauses session _ _ valid .standing) refl))
+
+  -- 01, Phases and waits: "With waits of 2,000 or more, no packet of the command phase is ever dropped."
+  pub long-wait-drops-nothing : (unlocked : Bool) (sleep : ℕ) → isValidRecord → session .standing .phase ≡ phase.Command unlocked sleep → 2000 ≤ wait
+      → passTime (session .standing) wait .heard ≡ true
+  long-wait-drops-nothing unlocked sleep valid phase long =
+      long-wait-is-heard (session .standing) wait unlocked sleep (record-by-clauses session _ _ valid .standing) phase long
+
+-- ---- start
+
+blank-is-allowed : isAllowed (blankSettings .shown) ≡ true
+unfolding isAllowed pick
+blank-is-allowed = refl
+
+module _ (image : List ℕ) where
+  -- what an accepted image promises
+  abbrev Promise : ReadTold → Type 0
+  Promise told = told .number ≡ 0 → (isAllowed (told .settings .shown) ≡ true) × (length image ≡ imageSize)
+
+  written-promises : length image ≡ imageSize → Promise (readWritten form1 image)
+  unfolding readWritten settingsIn valueNotAllowed
+  written-promises size =
+      by-pick Promise (checksumDiffers image) _ _ (λ y e. absurd (omega arith))
+      (λ n. by-pick Promise (formUnknown form1 image) _ _ (λ y e. absurd (omega arith))
+      (λ n. by-pick Promise (not (eqb (differingEntry form1 image) 0)) _ _ (λ y e. absurd (omega arith))
+      (λ n. by-pick Promise (fillerDiffers form1 image) _ _ (λ y e. absurd (omega arith))
+      (λ n. by-pick Promise (not (pick (isAllowed (shownIn form1 image)) (eqb (getD (bodyIn form1 3 image) 5 0) 0) false)) _ _ (λ y e. absurd (omega arith))
+      (λ n e. (pick-both _ _ (not-false _ n) .0, size))))))
+
+  accepted-is-allowed : Promise (readOf form1 image)
+  unfolding readOf
+  accepted-is-allowed =
+      by-pick Promise (not (eqb (length image) imageSize)) _ _ (λ y e. absurd (omega arith))
+      (λ n. let size = eqb-true _ _ (not-false _ n) in
+      by-pick Promise (isBlank image) _ _ (λ y e. (blank-is-allowed, size)) (λ n. written-promises size))
+
+-- what start tells where it is not refused
+abbrev pub startsAs : Session → StartTold
+startsAs session = record { answer = numbered 0 0; session = session }
+
+module _ (fuse : Bool) (main settings : List ℕ) where
+  -- what holds of the session of the settings that are read holds wherever a session is started
+  pub every-start : (P : StartTold → Type 0)
+      → (isMainSize (length main) ≡ true → readOf form1 settings .number ≡ 0 → P (startsAs (sessionOf (length main) (readOf form1 settings .settings))))
+      → startOf fuse main settings .answer .number ≡ 0 → P (startOf fuse main settings)
+  unfolding startOf startRead
+  every-start P holds =
+      by-pick Promised fuse _ _ (λ y e. absurd (omega arith))
+      (λ n. by-pick Promised (not (isMainSize (length main))) _ _ (λ y e. absurd (omega arith))
+      (λ n. by-pick Promised (eqb (readOf form1 settings .number) 0) _ _
+      (λ y e. holds (not-false _ n) (eqb-true _ _ y))
+      (λ n e. absurd (true≢false (sym (eq-eqb _ _ e) ∙ n)))))
+    where
+      Promised : StartTold → Type 0
+      Promised told = told .answer .number ≡ 0 → P told
+
+  -- a session that was started is valid beside the images it was started with
+  pub started-is-valid : startOf fuse main settings .answer .number ≡ 0
+      → isRecord (startOf fuse main settings .session) (length main) (length settings) ≡ true
+  started-is-valid =
+      every-start (λ told. isRecord (told .session) (length main) (length settings) ≡ true)
+      (λ size read.
+      let allowed = accepted-is-allowed settings read in
+      clauses-make-record _ _ _
+      (record { standing = start-is-valid; values = allowed .0; mainSize = size; settings = allowed .1; main = refl }))
+
+  -- 01, Phases and waits: "Settings are taken at start"
+  pub started-session : startOf fuse main settings .answer .number ≡ 0
+      → startOf fuse main settings .session ≡ sessionOf (length main) (readOf form1 settings .settings)
+  started-session = every-start (λ told. told .session ≡ sessionOf (length main) (readOf form1 settings .settings)) (λ size read. refl)

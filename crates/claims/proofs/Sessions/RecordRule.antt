@@ -1,0 +1,108 @@
+-- 01, The loader and its edges: "From C the record is a byte area". Decoding what was encoded gives the session, and encoding what was
+-- decoded gives the bytes (`encode-after-decode`, which `rig` needs itself and has among its own laws).
+-- `recordOf` is what `rig` is proved to store, `sessionIn` and `isRecordArea` what it is proved to read.
+use mathlib.Core.Path.{_≡_, refl, sym, ap, _∙_}
+use mathlib.Core.Bool.{true, false}
+use mathlib.Core.List.{List}
+use Prim.Native.Nat.{ℕ, _+_, _-_, _<_}
+use native.Mathlib.Omega.{arith}
+use borrow.Author.Tests.{eq-eqb}
+use lib.Dec.{eqb}
+use lib.ListN.{length, getD, drop}
+use lib.Seq.{take-all, getD-drop}
+use Rattle.octets.specs.Choice.{pick}
+use Rattle.octets.specs.Number.{bytesOf, numberAt}
+use Rattle.octets.proofs.Numbers.{number-of-bytes}
+use Rattle.standing.specs.declared.Phase.{Phase}
+use Rattle.standing.specs.declared.Phase.the-variants.{Detect, Command, Standby, Ended, Disabled}
+use Rattle.layout.specs.Layout.{form1, lengthOf, offsetOf, sumOf, tableEnd}
+use Rattle.fields.specs.Bodies.{bodiesOf}
+use Rattle.fields.specs.Fields as fields
+use Rattle.loader.specs.declared.Session.{Session}
+use Rattle.rig.specs.Records.{recordSize, fieldsAt, fieldsSize, unusedAt, phaseCode, lockCode, sleepOf, recordOf, phaseIn, standingIn, sessionIn, phaseFits, isRecordArea}
+use Rattle.rig.specs.Boundary.{zeroAt}
+use Rattle.rig.proofs.RecordAgain.{encode-after-decode}
+use Rattle.claims.specs.Held.{HeldSession}
+use Rattle.claims.proofs.Settings.FieldsRule.{read-after-made, fields-size, made-unused}
+
+-- ---- a session as bytes
+
+phase-back : (phase : Phase) → phaseIn (phaseCode phase) (eqb (lockCode phase) 1) (sleepOf phase) ≡ phase
+unfolding phaseIn pick
+phase-back Detect = refl
+phase-back (Command true sleep) = refl
+phase-back (Command false sleep) = refl
+phase-back Standby = refl
+phase-back Ended = refl
+phase-back Disabled = refl
+
+coded-phase-fits : (phase : Phase) → phaseFits (phaseCode phase) (lockCode phase) (sleepOf phase) ≡ true
+unfolding phaseFits pick
+coded-phase-fits Detect = refl
+coded-phase-fits (Command true sleep) = refl
+coded-phase-fits (Command false sleep) = refl
+coded-phase-fits Standby = refl
+coded-phase-fits Ended = refl
+coded-phase-fits Disabled = refl
+
+module _ (session : Session) (held : HeldSession session) where
+  sleep-back : numberAt 4 4 (recordOf session) ≡ sleepOf (session .standing .phase)
+  unfolding recordOf bytesOf
+  sleep-back = number-of-bytes 4 (sleepOf (session .standing .phase)) (held .sleep)
+
+  idle-back : numberAt 8 4 (recordOf session) ≡ session .standing .idle
+  unfolding recordOf bytesOf
+  idle-back = number-of-bytes 4 (session .standing .idle) (held .idle)
+
+  main-back : numberAt 12 4 (recordOf session) ≡ session .«main_size»
+  unfolding recordOf bytesOf
+  main-back = number-of-bytes 4 (session .«main_size») (held .main)
+
+  fields-there : drop 16 (recordOf session) ≡ bodiesOf (session .settings)
+  unfolding recordOf bytesOf
+  fields-there = refl
+
+  standing-back : standingIn (recordOf session) ≡ session .standing
+  unfolding standingIn recordOf
+  standing-back = rw (sleep-back, idle-back, phase-back (session .standing .phase))
+
+  pub decode-after-encode : sessionIn (recordOf session) ≡ session
+  unfolding sessionIn
+  decode-after-encode =
+      rw (standing-back, main-back, fields-there, take-all 74 (bodiesOf (session .settings)) (omega (arith, fields-size (session .settings) (held .settings))), read-after-made (session .settings) (held .settings))
+
+  record-size : length (recordOf session) ≡ 90
+  unfolding recordOf bytesOf
+  record-size = omega (arith, fields-size (session .settings) (held .settings))
+
+  unused-there : getD (recordOf session) 69 0 ≡ 0
+  unused-there = sym (getD-drop 16 (recordOf session) 53 0) ∙ ap (λ (l : List ℕ). getD l 53 0) fields-there ∙ made-unused (session .settings) (held .settings)
+
+  pub encoded-is-record : isRecordArea (recordOf session) ≡ true
+  unfolding isRecordArea recordOf pick
+  encoded-is-record = rw (eq-eqb _ _ record-size, sleep-back, coded-phase-fits (session .standing .phase), unused-there)
+
+-- for a session there is one area only
+pub one-area : (one other : List ℕ) → ((k : ℕ) → getD one k 0 < 256) → ((k : ℕ) → getD other k 0 < 256) → isRecordArea one ≡ true → isRecordArea other ≡ true
+    → sessionIn one ≡ sessionIn other → one ≡ other
+one-area one other each each₂ known known₂ e =
+    sym (encode-after-decode one each known) ∙ ap recordOf e ∙ encode-after-decode other each₂ known₂
+
+-- ---- the numbers of the record's layout, from those of the image's
+
+-- the fields are the bodies
+pub fields-are-bodies : fieldsSize ≡ fields.fieldsSize form1
+unfolding offsetOf sumOf
+fields-are-bodies = refl
+
+-- the zero byte of the fields is the last of body 3
+pub zero-ends-body-3 : zeroAt + 1 ≡ offsetOf form1 3 - tableEnd form1 + lengthOf form1 3
+unfolding offsetOf sumOf
+zero-ends-body-3 = refl
+
+-- and stands in the record after the sixteen bytes before the fields
+pub unused-is-zero-byte : unusedAt ≡ fieldsAt + zeroAt
+unused-is-zero-byte = refl
+
+pub record-ends-with-fields : recordSize ≡ fieldsAt + fieldsSize
+record-ends-with-fields = refl

@@ -1,0 +1,13 @@
+-- The settings image and its fields: read and written by one rule.
+-- Pairs: numbers of two bytes each.
+pub mod Pairs
+-- Bodies: the bodies of some settings, read and made again.
+pub mod Bodies
+-- Written: a written image, part by part.
+pub mod Written
+-- Accepted: an accepted image, part by part.
+pub mod Accepted
+-- SettingsRule: the settings image is read and written by one rule.
+pub mod SettingsRule
+-- FieldsRule: the fields of some settings are read and made by one rule.
+pub mod FieldsRule

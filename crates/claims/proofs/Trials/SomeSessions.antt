@@ -1,0 +1,172 @@
+-- Sessions of the boards on which demand 3 is tried, call by call.
+use mathlib.Core.Path.{_≡_, refl, sym, ap, ap₂, subst, _∙_}
+use mathlib.Core.Bool.{Bool, true, false}
+use mathlib.Core.List.{List, [], _∷_}
+use Prim.Native.Nat.{ℕ, zero, suc, _/_, _≤_, _<_}
+use native.Mathlib.Nat.{zero-div}
+use native.Mathlib.Omega.{arith}
+use lib.ListN.{length, getD, take, drop, replicate, length-replicate}
+use lib.Seq.{take-append-seam}
+use Rattle.octets.specs.Choice.{pick}
+use Rattle.octets.specs.Number.{bytesOf}
+use Rattle.wire.specs.Codes.{replyLimit, unlock, isOneOf}
+use Rattle.wire.specs.Packet.{coreIn}
+use Rattle.wire.proofs.PacketLaws.{unlock-is-password}
+use Rattle.replies.specs.declared.Reply.{Reply}
+use Rattle.replies.specs.declared.Reply.the-variants.{Message}
+use Rattle.replies.specs.Replies.{replyBytes, Sent}
+use Rattle.replies.proofs.ReplyLaws.{message-bytes}
+use Rattle.standing.specs.declared.Standing.{Standing}
+use Rattle.standing.specs.Phases.{mostSleep, atStart}
+use Rattle.values.specs.declared.Settings.{Settings}
+use Rattle.settings.specs.Answer.{ReadTold}
+use Rattle.sectors.specs.Protection.{isProtected}
+use Rattle.sectors.proofs.ErasingLaws.{erase-all-of-open}
+use Rattle.judge.specs.declared.Effect.the-variants.{Say}
+use Rattle.judge.specs.Judgement.{says}
+use Rattle.judge.specs.Unlocking.{alertReset, tried}
+use Rattle.judge.specs.Hearing.{judgedOf}
+use Rattle.act.specs.Memory.{Memory, memory, sectorSize, settingsProtection}
+use Rattle.act.specs.Answering.{hushed}
+use Rattle.act.proofs.AnsweringLaws.{others-are-told, answer-is-whole}
+use Rattle.loader.specs.declared.Session.{Session}
+use Rattle.loader.specs.Passwords.{areSame}
+use Rattle.loader.specs.Calling.{carriedOut, serveOf}
+use Rattle.claims.specs.TwoBoards.{Images, Running, settingsOf, started, Carries, Sending, called, next, replied, isStruck}
+use Rattle.claims.specs.Trials.{chosen, strictBoard, allFF, connects, unlocks, threeGuesses, ran}
+use Rattle.claims.proofs.Sessions.CallRules.{valid-is-served}
+use Rattle.claims.proofs.Secrecy.LockedBoard.{imageThen, alertOf, memoryThen, sessionThen, later, Locked, started-is-later, started-is-locked}
+use Rattle.claims.proofs.Secrecy.LockedCall.{verdict, call-is, stays-locked}
+use Rattle.claims.proofs.Trials.SomePackets.{connect-core, unlock-core, unlock-is-fine, unlock-is-read, stood, connect-connects, tried-awake, first-is-counted, second-is-counted, third-is-counted}
+use Rattle.claims.proofs.Trials.SomeBoards.{Good, starts, strict-is-good}
+
+-- a running board stands locked
+pub record Stands (images : Images) (board : Running) (standing : Standing) : Type 0 where
+  pub so : board ≡ later images standing
+  pub locked : Locked images standing
+
+-- the areas have the least room
+pub room : (byte : ℕ) → replyLimit ≤ length (replicate replyLimit byte)
+room byte = omega (arith, length-replicate replyLimit byte)
+
+module _ (images : Images) (settings : Settings) (good : Good images settings) where
+  -- ---- packets without its password
+
+  not-carried : (packet core : List ℕ) → coreIn packet ≡ core → (core ≡ unlock ∷ settings .password → ⊥) → Carries packet (settingsOf images .password) → ⊥
+  not-carried packet core there other carries =
+      other (sym there ∙ carries .core ∙ ap (λ (told : ReadTold). unlock ∷ told .settings .password) (good .read))
+
+  pub connect-is-strange : Carries (connects .packet) (settingsOf images .password) → ⊥
+  connect-is-strange = not-carried (connects .packet) _ connect-core (λ e. omega (arith, ap (λ (bytes : List ℕ). getD bytes 0 0) e))
+
+  -- another byte than the password's first
+  pub unlock-is-strange : (byte : ℕ) → (byte ≡ getD (settings .password) 0 0 → ⊥) → Carries (unlocks byte .packet) (settingsOf images .password) → ⊥
+  unlock-is-strange byte other =
+      not-carried (unlocks byte .packet) _ (unlock-core byte) (λ e. other (ap (λ (bytes : List ℕ). getD bytes 1 0) e))
+
+  -- ---- one call after another
+
+  stands-at-start : Stands images (started images) atStart
+  stands-at-start =
+      record { so = started-is-later images (starts images settings good); locked = started-is-locked images (starts images settings good) }
+
+  module _ (board : Running) (standing : Standing) (stands : Stands images board standing) where
+    -- a call without its password
+    stands-next : (sending : Sending) → (Carries (sending .packet) (settingsOf images .password) → ⊥) → replyLimit ≤ length (sending .oneArea)
+        → (after : Standing) → verdict images standing sending .standing ≡ after
+        → Stands images (next (called board sending (sending .oneArea))) after
+    stands-next sending stranger room after e = record {
+      so =
+          ap (λ (board : Running). next (called board sending (sending .oneArea))) (stands .so)
+          ∙ ap next (call-is images standing (stands .locked) sending (sending .oneArea) stranger room)
+          ∙ ap (later images) e;
+      locked = subst (Locked images) e (stays-locked images standing (stands .locked) sending (sending .oneArea) stranger room);
+    }
+
+    -- an Unlock with another one
+    pub guess : (byte : ℕ) → (byte ≡ getD (settings .password) 0 0 → ⊥) → (after : Standing)
+        → verdict images standing (unlocks byte) .standing ≡ after
+        → Stands images (next (called board (unlocks byte) (unlocks byte .oneArea))) after
+    guess byte other after e = stands-next (unlocks byte) (unlock-is-strange byte other) (room 0) after e
+
+  pub connected : Stands images (ran (started images) (connects ∷ [])) (stood 0 0)
+  connected = stands-next _ _ stands-at-start connects connect-is-strange (room 0) _ (connect-connects (alertOf images) false)
+
+  -- ---- an Unlock, once connected
+
+  module _ (byte : ℕ) (small : byte < 256) where
+    -- it is tried, by whether it has the password
+    pub unlock-is-tried : (right : Bool) → areSame (settings .password) (replicate 32 byte) ≡ right
+        → called (ran (started images) (connects ∷ [])) (unlocks byte) (unlocks byte .oneArea)
+        ≡ carriedOut (sessionThen images (stood 0 0)) (later images (stood 0 0) .memory) (unlocks byte .packet) (unlocks byte .oneArea)
+        (tried (stood 0 0) (alertOf images) right)
+    unfolding serveOf
+    unlock-is-tried right compared =
+        let core = sym (unlock-is-password (unlocks byte .packet) (unlock-is-fine byte small) (unlock-is-read byte)) ∙ unlock-core byte in
+        let bit = ap₂ areSame (ap (λ (told : ReadTold). told .settings .password) (good .read)) (ap (drop 1) core) ∙ compared in
+        ap (λ (board : Running). called board (unlocks byte) (unlocks byte .oneArea)) (connected .so)
+        ∙ valid-is-served (sessionThen images (stood 0 0)) _ 2000 (unlocks byte .packet) (unlocks byte .oneArea) (connected .locked .valid) (room 0)
+        ∙ ap (carriedOut (sessionThen images (stood 0 0)) _ (unlocks byte .packet) (unlocks byte .oneArea))
+        (ap (judgedOf (stood 0 0) (alertOf images) 2000 (unlocks byte .packet)) bit ∙ tried-awake byte small 0 (alertOf images) right)
+
+-- the message that an Unlock gets is the sixth byte of its reply
+module _ (session : Session) (before : Memory) (byte code : ℕ) (standing : Standing) where
+  abbrev reply : List ℕ
+  reply = replied (carriedOut session before (unlocks byte .packet) (unlocks byte .oneArea) (says standing (Message code)))
+
+  reply-is-message : reply ≡ replyBytes (Message code) []
+  unfolding bytesOf isOneOf pick
+  reply-is-message =
+      ap (λ (sent : Sent). take (sent .size) (sent .area))
+      (answer-is-whole (Say (Message code)) (Message code) (unlocks byte .packet) (session .«main_size») before (unlocks byte .oneArea) (omega arith) (room 0))
+      ∙ take-append-seam (replyBytes (hushed (unlocks byte .packet) (Message code)) []) _
+      ∙ ap (λ (reply : Reply). replyBytes reply []) (others-are-told (unlocks byte .packet) (Message code) refl)
+
+  pub message-is-sixth : getD reply 5 0 ≡ code
+  message-is-sixth = ap (λ (bytes : List ℕ). getD bytes 5 0) (reply-is-message ∙ message-bytes code [])
+
+-- ---- three wrong passwords, where the alert is reset
+
+-- where nothing is protected, all is erased
+no-bit : (count value k : ℕ) → getD (replicate count value) k value ≡ value
+no-bit zero value k = refl
+no-bit (suc count) value zero = refl
+no-bit (suc count) value (suc k) = no-bit count value k
+
+none-protected : (count sector : ℕ) → isProtected (replicate count 0) sector ≡ false
+unfolding isProtected
+none-protected count sector = rw (no-bit count 0 (sector / 8), zero-div)
+
+all-erased : (count : ℕ) (protection image : List ℕ) → protection ≡ replicate count 0 → imageThen true protection image ≡ replicate (length image) 0xFF
+unfolding imageThen pick
+all-erased count protection image none =
+    erase-all-of-open sectorSize protection image (omega arith)
+    (λ place there. ap (λ (protection : List ℕ). isProtected protection (place / sectorSize)) none ∙ none-protected count (place / sectorSize))
+
+module _ (byte main : ℕ) (small : byte < 256) (other : 0x33 ≡ byte → ⊥) where
+  abbrev strict : Images
+  strict = strictBoard byte main
+
+  good : Good strict (chosen alertReset 0 byte)
+  good = strict-is-good byte main small
+
+  resets : alertOf strict ≡ alertReset
+  resets = ap (λ (told : ReadTold). told .settings .shown .alert) (good .read)
+
+  guessed : Stands strict (ran (started strict) threeGuesses) (stood mostSleep 3)
+  guessed =
+      let first = guess strict _ good _ _ (connected strict _ good) 0x33 other _ (first-is-counted 0x33 (omega arith) (alertOf strict)) in
+      let second = guess strict _ good _ _ first 0x33 other _ (second-is-counted 0x33 (omega arith) (alertOf strict)) in
+      guess strict _ good _ _ second 0x33 other _ (rw resets (third-is-counted 0x33 (omega arith)))
+
+  struck : isStruck (alertOf strict) (stood mostSleep 3) ≡ true
+  unfolding isStruck pick
+  struck = rw resets
+
+  -- the third one strikes
+  pub three-guesses-erase : ran (started strict) threeGuesses .memory ≡ allFF strict
+  three-guesses-erase =
+      ap (λ (board : Running). board .memory) (guessed .so)
+      ∙ ap (memoryThen strict) struck
+      ∙ ap₂ memory (all-erased 8 _ _ (ap (λ (told : ReadTold). told .settings .protection) (good .read)))
+      (all-erased 1 _ _ (ap (λ (told : ReadTold). settingsProtection (told .settings .shown)) (good .read)))

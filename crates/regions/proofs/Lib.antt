@@ -1,0 +1,2 @@
+-- RegionLaws: what an answer of the range check says of the range.
+pub mod RegionLaws

@@ -1,0 +1,73 @@
+// Which region of the memory holds a range of addresses.
+ghost use mathlib.Core.Path.{_≡_};
+ghost use Rattle.regions.specs.Regions.{mspm0Part, liesWithin, placeOf};
+
+// Where a range of addresses can lie.
+pub enum Region {
+    Main,
+    Settings,
+    Outside,
+}
+
+// The region that holds a range wholly, and how far from its start the range begins; 0 outside.
+pub struct Place {
+    pub region: Region,
+    pub offset: usize,
+}
+
+// The numbers of a part of the family. MAIN starts at 0, and its size is the board's.
+pub struct Part {
+    pub settings_start: u32,
+    pub settings_size: u32,
+}
+
+const MAIN_START: u32 = 0;
+
+// The part of document 004.
+pub fn mspm0() -> Part
+    ensures { λ r. ⌜ r ≡ mspm0Part ⌝ }
+{
+    Part {
+        settings_start: 0x41C0_0000,
+        settings_size: 1024,
+    }
+}
+
+// Whether a region of so many bytes from a start on holds the range wholly.
+// The sums are of 64 bits, and a count above the size is told first, so nothing wraps.
+fn lies_within(start: u32, size: u32, first: u32, count: u64) -> bool
+    ensures { λ r. ⌜ r ≡ liesWithin start size first count ⌝ }
+{
+    let room = size as u64;
+    if first < start {
+        return false;
+    }
+    if room < count {
+        return false;
+    }
+    first as u64 + count <= start as u64 + room
+}
+
+// The region that holds the range wholly, for every count.
+pub fn locate(part: Part, main_size: u32, first: u32, count: u64) -> Place
+    ensures { λ r. ⌜ r ≡ placeOf part «main_size» first count ⌝ }
+{
+    if lies_within(MAIN_START, main_size, first, count) {
+        return Place {
+            region: Region::Main,
+            offset: (first - MAIN_START) as usize,
+        };
+    }
+    let start = part.settings_start;
+    let size = part.settings_size;
+    if lies_within(start, size, first, count) {
+        return Place {
+            region: Region::Settings,
+            offset: (first - start) as usize,
+        };
+    }
+    Place {
+        region: Region::Outside,
+        offset: 0,
+    }
+}

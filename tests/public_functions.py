@@ -1,0 +1,47 @@
+"""Every public function of a library has one promise and refuses nobody: one `ensures`, no `requires`, and at least two must-fail
+edits of its own. The first line of an edit names the functions that it breaks: `# function, function: what the wrong program does`."""
+import pathlib
+import re
+import sys
+
+FUNCTION = re.compile(r'^ *(pub )?(?:extern "C" )?fn (\w+)', re.M)
+
+
+def public_functions(source):
+    """Each public function's name, and its text up to the brace that opens its body."""
+    text = source.read_text()
+    for found in FUNCTION.finditer(text):
+        if found.group(1):
+            head = re.split(r"^ *\{ *$", text[found.start():], maxsplit=1, flags=re.M)[0]
+            yield found.group(2), head
+
+
+def broken_by(edit):
+    """The functions that an edit breaks."""
+    first = edit.read_text().split("\n", 1)[0]
+    return re.findall(r"\w+", first.split(":", 1)[0])
+
+
+def wrong_in(crate):
+    breaks = [name for edit in crate.glob("must-fail/*.edit") for name in broken_by(edit)]
+    for source in sorted(crate.glob("src/*.rt")):
+        for name, head in public_functions(source):
+            promises = len(re.findall(r"^ *ensures ", head, re.M))
+            if promises != 1:
+                yield f"{source}: {name} has {promises} ensures, and 1 is wanted"
+            if re.search(r"^ *requires ", head, re.M):
+                yield f"{source}: {name} has a requires"
+            if breaks.count(name) < 2:
+                yield f"{source}: {name} has {breaks.count(name)} must-fail edits, and 2 are wanted"
+
+
+def main():
+    libraries = [path.parent.parent for path in sorted(pathlib.Path("crates").glob("*/src/lib.rt"))]
+    wrong = [line for crate in libraries for line in wrong_in(crate)]
+    for line in wrong:
+        print(line)
+    return 1 if wrong or not libraries else 0
+
+
+if __name__ == "__main__":
+    sys.exit(main())
