@@ -85,14 +85,14 @@ static void print_outcomes(FILE *out)
 {
     fprintf(out, "\n%-14s", "command");
     for (int outcome = 0; outcome < OUTCOMES; outcome++)
-        fprintf(out, "%7s", outcome_names[outcome]);
+        fprintf(out, "%9s", outcome_names[outcome]);
     for (int row = 0; row <= COMMANDS; row++) {
         fprintf(out, "\n%-14s", name_of(row));
         for (int outcome = 0; outcome < OUTCOMES; outcome++)
             if (can_arise(row, outcome) || outcomes[row][outcome] > 0)
-                fprintf(out, "%7llu", outcomes[row][outcome]);
+                fprintf(out, "%9llu", outcomes[row][outcome]);
             else
-                fprintf(out, "%7s", ".");
+                fprintf(out, "%9s", ".");
     }
     fputc('\n', out);
 }
