@@ -1,18 +1,8 @@
 #include "sides.h"
 
-#include "bhorelmu.h"
-#include "rig/model/model.h"
+#include "rig/model/functions.h"
 
 #include <string.h>
-
-struct functions {
-    uint64_t (*start)(uint32_t, const uint8_t *, size_t, const uint8_t *, size_t, uint8_t *, size_t);
-    uint64_t (*call)(uint8_t *, size_t, uint8_t *, size_t, uint8_t *, size_t, uint32_t, const uint8_t *, size_t,
-                     uint8_t *, size_t);
-    uint64_t (*settings_read)(const uint8_t *, size_t, uint8_t *, size_t);
-    uint64_t (*settings_write)(const uint8_t *, size_t, uint8_t *, size_t);
-    uint32_t (*rate)(uint32_t);
-};
 
 static uint64_t no_start(uint32_t fuse, const uint8_t *main_flash, size_t main_size, const uint8_t *settings,
                          size_t settings_size, uint8_t *record, size_t record_size)
@@ -48,16 +38,18 @@ static uint32_t no_rate(uint32_t id)
     return 0;
 }
 
-static const struct functions functions_of[SIDES] = {
-    [OURS] = {bhorelmu_start, bhorelmu_call, bhorelmu_settings_read, bhorelmu_settings_write, bhorelmu_rate},
-    [MODEL] = {model_start, model_call, model_settings_read, model_settings_write, model_rate},
-    [NOTHING] = {no_start, no_call, no_read, no_write, no_rate},
+static const struct loader_functions nothing = {no_start, no_call, no_read, no_write, no_rate};
+
+static const struct loader_functions *const functions_of[SIDES] = {
+    [OURS] = &product_functions,
+    [MODEL] = &model_functions,
+    [NOTHING] = &nothing,
 };
 
 void begin(struct side *side, enum which which, const struct bench_case *bench_case, const struct board *fresh)
 {
     side->bench_case = bench_case;
-    side->functions = &functions_of[which];
+    side->functions = functions_of[which];
     side->fresh = fresh;
     side->now = *fresh;
     memset(side->reply, 0xA5, sizeof side->reply);
@@ -73,7 +65,7 @@ void renew_records(void *subject, size_t calls)
 static uint64_t call_once(struct side *side, uint8_t *record)
 {
     const struct bench_case *bench_case = side->bench_case;
-    const struct functions *functions = side->functions;
+    const struct loader_functions *functions = side->functions;
     struct board *now = &side->now;
     switch (bench_case->function) {
     case CALL:

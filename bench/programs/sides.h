@@ -10,7 +10,7 @@ enum { CALLS_MOST = 128, RECORD_ROOM = 128 };
 
 struct side {
     const struct bench_case *bench_case;
-    const struct functions *functions;
+    const struct loader_functions *functions;
     const struct board *fresh;
     struct board now;
     uint8_t reply[REPLY_SIZE];

@@ -1,8 +1,7 @@
 #include "sides.h"
 
-#include "bhorelmu.h"
 #include "dice.h"
-#include "model/model.h"
+#include "model/functions.h"
 #include "wire.h"
 
 #include <string.h>
@@ -17,20 +16,6 @@ enum { ALL_ROOMS = MAIN_ROOM + SETTINGS_ROOM + RECORD_ROOM + REPLY_ROOM + FIELDS
 enum { STORE = ALL_ROOMS + AREAS * (2 * GUARD + SHIFTS) };
 
 static uint8_t product_store[STORE], model_store[STORE];
-
-struct loader_functions {
-    uint64_t (*start)(uint32_t, const uint8_t *, size_t, const uint8_t *, size_t, uint8_t *, size_t);
-    uint64_t (*call)(uint8_t *, size_t, uint8_t *, size_t, uint8_t *, size_t, uint32_t, const uint8_t *, size_t,
-                     uint8_t *, size_t);
-    uint64_t (*settings_read)(const uint8_t *, size_t, uint8_t *, size_t);
-    uint64_t (*settings_write)(const uint8_t *, size_t, uint8_t *, size_t);
-    uint32_t (*rate)(uint32_t);
-};
-
-static const struct loader_functions product = {bhorelmu_start, bhorelmu_call, bhorelmu_settings_read,
-                                                bhorelmu_settings_write, bhorelmu_rate};
-static const struct loader_functions model = {model_start, model_call, model_settings_read, model_settings_write,
-                                              model_rate};
 
 static void clear_side(struct side *side, uint8_t *store, uint64_t seed)
 {
@@ -134,8 +119,8 @@ static void perform(struct side *side, const struct loader_functions *loader, co
 void take_step(struct sides *sides, const struct step *step)
 {
     prepare(sides, step);
-    perform(&sides->product, &product, step);
-    perform(&sides->model, &model, step);
+    perform(&sides->product, &product_functions, step);
+    perform(&sides->model, &model_functions, step);
 }
 
 /* How many bytes of an area, the guards included, can have been touched. */

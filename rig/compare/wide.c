@@ -1,8 +1,7 @@
 #include "wide.h"
 
-#include "bhorelmu.h"
 #include "dice.h"
-#include "model/model.h"
+#include "model/functions.h"
 #include "wire.h"
 
 #include <stdio.h>
@@ -27,22 +26,13 @@ struct lent {
 
 #define LENT(lent, kind) (lent)->area[kind], (lent)->size[kind]
 
-static void product_calls(const struct lent *lent, uint64_t *answers)
+static void call_all(const struct loader_functions *loader, const struct lent *lent, uint64_t *answers)
 {
-    answers[0] = bhorelmu_call(LENT(lent, WIDE_RECORD), LENT(lent, WIDE_MAIN), LENT(lent, WIDE_SETTINGS), 0,
-                               LENT(lent, WIDE_PACKET), LENT(lent, WIDE_REPLY));
-    answers[1] = bhorelmu_start(0, LENT(lent, WIDE_MAIN), LENT(lent, WIDE_SETTINGS), LENT(lent, WIDE_RECORD));
-    answers[2] = bhorelmu_settings_read(LENT(lent, WIDE_SETTINGS), LENT(lent, WIDE_FIELDS));
-    answers[3] = bhorelmu_settings_write(LENT(lent, WIDE_FIELDS), LENT(lent, WIDE_SETTINGS));
-}
-
-static void model_calls(const struct lent *lent, uint64_t *answers)
-{
-    answers[0] = model_call(LENT(lent, WIDE_RECORD), LENT(lent, WIDE_MAIN), LENT(lent, WIDE_SETTINGS), 0,
-                            LENT(lent, WIDE_PACKET), LENT(lent, WIDE_REPLY));
-    answers[1] = model_start(0, LENT(lent, WIDE_MAIN), LENT(lent, WIDE_SETTINGS), LENT(lent, WIDE_RECORD));
-    answers[2] = model_settings_read(LENT(lent, WIDE_SETTINGS), LENT(lent, WIDE_FIELDS));
-    answers[3] = model_settings_write(LENT(lent, WIDE_FIELDS), LENT(lent, WIDE_SETTINGS));
+    answers[0] = loader->call(LENT(lent, WIDE_RECORD), LENT(lent, WIDE_MAIN), LENT(lent, WIDE_SETTINGS), 0,
+                              LENT(lent, WIDE_PACKET), LENT(lent, WIDE_REPLY));
+    answers[1] = loader->start(0, LENT(lent, WIDE_MAIN), LENT(lent, WIDE_SETTINGS), LENT(lent, WIDE_RECORD));
+    answers[2] = loader->settings_read(LENT(lent, WIDE_SETTINGS), LENT(lent, WIDE_FIELDS));
+    answers[3] = loader->settings_write(LENT(lent, WIDE_FIELDS), LENT(lent, WIDE_SETTINGS));
 }
 
 /* A blank board in the command phase that is handed an Info, all in narrow areas but one. */
@@ -71,11 +61,11 @@ static bool wide_area_agrees(int wide, size_t more, uint8_t *wide_area)
     uint64_t ours[4], theirs[4];
     struct lent lent;
     lay_out(&lent, wide, more, wide_area, narrow);
-    model_calls(&lent, theirs);
+    call_all(&model_functions, &lent, theirs);
     for (int kind = 0; kind < WIDE_KINDS; kind++)
         memcpy(kept[kind], lent.area[kind], FRONT);
     lay_out(&lent, wide, more, wide_area, narrow);
-    product_calls(&lent, ours);
+    call_all(&product_functions, &lent, ours);
     bool agree = memcmp(ours, theirs, sizeof ours) == 0;
     for (int kind = 0; kind < WIDE_KINDS; kind++)
         agree = agree && memcmp(kept[kind], lent.area[kind], FRONT) == 0;

@@ -5,7 +5,7 @@
 #include <stdint.h>
 
 /*
- * The loader of document 01 a second time, in plain C and from the document alone. rig/compare.c holds the product
+ * The loader of document 01 a second time, in plain C and from the document alone. rig/compare holds the product
  * against it, and the speed figures are measured beside it. Areas, records and answers are those of bhorelmu.h.
  */
 
