@@ -1,6 +1,4 @@
 -- Laws of a session and its calls.
--- PasswordLaws: the comparison of passwords.
-pub mod PasswordLaws
 -- RecordLaws: what a valid record is, clause by clause.
 pub mod RecordLaws
 -- StartLaws: what start tells beside its number.

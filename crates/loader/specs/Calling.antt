@@ -17,7 +17,7 @@ use Rattle.act.specs.Acting.{actOf}
 use Rattle.act.specs.Answering.{answerOf}
 use Rattle.loader.specs.declared.Session.{Session}
 use Rattle.loader.specs.Records.{isRecord}
-use Rattle.loader.specs.Passwords.{areSame}
+use Rattle.octets.specs.Same.{areSame}
 use Rattle.loader.specs.Answers.{callTold, Left, left}
 
 -- how the session stands then; its MAIN size and its settings stay: "The session keeps its password"

@@ -5,7 +5,5 @@ pub mod Records
 pub mod Answers
 -- Starting: which boards start, and in which session.
 pub mod Starting
--- Passwords: which password is right.
-pub mod Passwords
 -- Calling: what a call leaves.
 pub mod Calling

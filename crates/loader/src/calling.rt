@@ -6,7 +6,6 @@ ghost use Rattle.loader.specs.Calling.{standsThen, judgement, deed, serv
 use crate::CallAnswer;
 use crate::Called;
 use crate::Session;
-use crate::passwords;
 use crate::records;
 use judge::Effect;
 use judge::Judged;
@@ -25,7 +24,7 @@ fn judge_packet(session: Session, wait: u32, packet: &[u8]) -> Judged
 {
     let settings = session.settings;
     let tried = octets::part_of(packet, FIRST_AT, PASSWORD_SIZE);
-    let right = passwords::are_same(&settings.password, tried);
+    let right = octets::are_same(&settings.password, tried);
     judge::judge(session.standing, settings.shown.alert, wait, packet, right)
 }
 
@@ -41,7 +40,7 @@ fn act_on(
 {
     let settings = session.settings;
     let tried = octets::part_of(packet, FIRST_AT, RESET_PASSWORD_SIZE);
-    let right = passwords::are_same(&settings.reset_password, tried);
+    let right = octets::are_same(&settings.reset_password, tried);
     act::act(
         effect,
         settings.shown,

@@ -1,6 +1,5 @@
 // The loader: one session of a board, from its start on, call by call.
 mod calling;
-mod passwords;
 mod records;
 mod starting;
 

@@ -5,5 +5,7 @@ pub mod Numbers
 pub mod Parts
 -- Searching: choices, a test at every byte, the first number that passes a test.
 pub mod Searching
+-- Sameness: the comparison of bytes.
+pub mod Sameness
 -- Table: one computed test over a whole table is the rule at each entry.
 pub mod Table

@@ -5,3 +5,5 @@ pub mod Choice
 pub mod Number
 -- Search: a test at every byte, and the first number that passes a test.
 pub mod Search
+-- Same: the same bytes, all of them.
+pub mod Same

@@ -4,6 +4,7 @@ ghost use Prim.Native.Nat.{_-_, min};
 ghost use lib.ListN.{getD};
 ghost use Rattle.octets.specs.Number.{part, numberAt};
 ghost use Rattle.octets.specs.Search.{allAre};
+ghost use Rattle.octets.specs.Same.{areSame};
 
 // The lesser of two numbers.
 pub fn least(a: usize, b: usize) -> usize
@@ -67,4 +68,22 @@ pub fn all_are(value: u8, bytes: &[u8]) -> bool
         i += 1;
     }
     all
+}
+
+// Whether these are the same bytes. Every byte is looked at, also after one that differs.
+pub fn are_same(some: &[u8], others: &[u8]) -> bool
+    ensures { λ r. ⌜ r ≡ areSame (now (some .entry)) (now (others .entry)) ⌝ }
+{
+    if some.len() != others.len() {
+        return false;
+    }
+    let mut same = true;
+    let mut i = 0;
+    while i < some.len() {
+        if some[i] != others[i] {
+            same = false;
+        }
+        i += 1;
+    }
+    same
 }

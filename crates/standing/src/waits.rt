@@ -1,6 +1,8 @@
 // How time passes: sleep is used up first, and the rest of a wait is idle time.
 ghost use mathlib.Core.Path.{_≡_};
-ghost use Rattle.standing.specs.Waits.{isIdleTooLong, movedTo, detectIdles, commandIdles, passTime};
+ghost use Prim.Native.Nat.{_+_};
+ghost use Rattle.octets.specs.Choice.{pick};
+ghost use Rattle.standing.specs.Waits.{isIdleTooLong, movedTo, heard, detectIdles, commandIdles, passTime};
 use crate::IDLE_LIMIT;
 use crate::Passed;
 use crate::Phase;
@@ -25,39 +27,42 @@ fn moved_to(standing: Standing, phase: Phase, idle: u32) -> Standing
     }
 }
 
+// The rest of a wait is idle time: in this phase below the limit, and from the limit on as `over` says.
+fn idled(standing: Standing, phase: Phase, rest: u32, over: Passed) -> Passed
+    ensures { λ r. ⌜ r ≡ pick (isIdleTooLong standing rest) over (heard (movedTo standing phase (standing .idle + rest))) ⌝ }
+{
+    if is_idle_too_long(standing, rest) {
+        return over;
+    }
+    Passed {
+        standing: moved_to(standing, phase, standing.idle + rest),
+        heard: true,
+    }
+}
+
 fn detect_idles(standing: Standing, rest: u32) -> Passed
     ensures { λ r. ⌜ r ≡ detectIdles standing rest ⌝ }
 {
-    if is_idle_too_long(standing, rest) {
-        return Passed {
-            standing: moved_to(standing, Phase::Standby, 0),
-            heard: false,
-        };
-    }
-    Passed {
-        standing: moved_to(standing, Phase::Detect, standing.idle + rest),
-        heard: true,
-    }
+    let over = Passed {
+        standing: moved_to(standing, Phase::Standby, 0),
+        heard: false,
+    };
+    idled(standing, Phase::Detect, rest, over)
 }
 
 fn command_idles(standing: Standing, unlocked: bool, rest: u32) -> Passed
     ensures { λ r. ⌜ r ≡ commandIdles standing unlocked rest ⌝ }
 {
-    if is_idle_too_long(standing, rest) {
-        let locked = Phase::Command {
-            unlocked: false,
-            sleep: 0,
-        };
-        return Passed {
-            standing: moved_to(standing, locked, 0),
-            heard: true,
-        };
-    }
-    let awake = Phase::Command { unlocked, sleep: 0 };
-    Passed {
-        standing: moved_to(standing, awake, standing.idle + rest),
+    let locked = Phase::Command {
+        unlocked: false,
+        sleep: 0,
+    };
+    let over = Passed {
+        standing: moved_to(standing, locked, 0),
         heard: true,
-    }
+    };
+    let awake = Phase::Command { unlocked, sleep: 0 };
+    idled(standing, awake, rest, over)
 }
 
 // How a session stands after a wait of so many milliseconds. The packet that came then is heard, or it is dropped.

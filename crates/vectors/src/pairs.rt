@@ -38,18 +38,6 @@ fn say_check(frame: &[u8]) {
     text::say(b", does not check");
 }
 
-fn are_same(some: &[u8], others: &[u8]) -> bool {
-    if some.len() != others.len() {
-        return false;
-    }
-    for i in 0..some.len() {
-        if some[i] != others[i] {
-            return false;
-        }
-    }
-    true
-}
-
 fn say_verdict(same: bool) {
     if same {
         text::say(b"; answered as printed:");
@@ -62,7 +50,7 @@ fn show_answer(packet: &[u8], expected: &[u8]) {
     let mut area = [0u8; codes::REPLY_LIMIT];
     let size = boards::put_reply(packet, &mut area);
     let reply = octets::part_of(&area, 0, size);
-    say_verdict(are_same(reply, expected));
+    say_verdict(octets::are_same(reply, expected));
     text::say_bytes(reply);
 }
 

@@ -8,6 +8,7 @@ use lib.ListN.{length, getD, replicate}
 use lib.Seq.{sets}
 use Rattle.octets.specs.Number.{part, numberAt, bytesOf}
 use Rattle.octets.specs.Search.{allAre}
+use Rattle.octets.specs.Same.{areSame}
 use Rattle.hex.specs.Hex.{hexOf}
 use Rattle.checksum.specs.Checksum.{checksumFrom, checksumOf}
 use Rattle.wire.specs.declared.Command.{Command}
@@ -78,6 +79,9 @@ number32-at-is-one bytes at = as-said (numberAt at 4 bytes)
 
 pub all-are-is-one : (value : ℕ) (bytes : List ℕ) → OneAnswer (λ r. r ≡ allAre value bytes)
 all-are-is-one value bytes = as-said (allAre value bytes)
+
+pub are-same-is-one : (some others : List ℕ) → OneAnswer (λ r. r ≡ areSame some others)
+are-same-is-one some others = as-said (areSame some others)
 
 -- ---- stores
 

@@ -35,12 +35,12 @@ use Rattle.act.specs.Memory.{Memory}
 use Rattle.act.proofs.ActingLaws.{act-keeps-lengths}
 use Rattle.loader.specs.declared.Session.{Session}
 use Rattle.loader.specs.Answers.{StartTold, Left}
-use Rattle.loader.specs.Passwords.{areSame}
+use Rattle.octets.specs.Same.{areSame}
 use Rattle.loader.specs.Records.{isMainSize, isRecord}
 use Rattle.loader.specs.Starting.{sessionOf, startRead, startOf}
 use Rattle.loader.specs.Calling.{boardOf, judgement, serveOf, callOf}
 use Rattle.loader.proofs.CallLaws.{every-call}
-use Rattle.loader.proofs.PasswordLaws.{same-are-equal}
+use Rattle.octets.proofs.Sameness.{same-are-equal}
 use Rattle.loader.proofs.RecordLaws.{record-by-clauses, clauses-make-record}
 use Rattle.claims.specs.TwoBoards.{Carries}
 

@@ -16,9 +16,9 @@ use Rattle.claims.specs.Trials.{blankBoard, writtenBoard, quietBoard, st
 use Rattle.judge.specs.Judgement.{says}
 use Rattle.judge.specs.Unlocking.{afterRight, countedUp, afterWrong, asleep, triedWrong, tried}
 use Rattle.loader.specs.Answers.{Left}
-use Rattle.loader.specs.Passwords.{areSame}
+use Rattle.octets.specs.Same.{areSame}
 use Rattle.loader.specs.Calling.{carriedOut}
-use Rattle.loader.proofs.PasswordLaws.{equal-are-same}
+use Rattle.octets.proofs.Sameness.{equal-are-same}
 use Rattle.claims.proofs.Secrecy.LockedBoard.{sessionThen, later}
 use Rattle.claims.proofs.Trials.SomePackets.{stood}
 use Rattle.claims.proofs.Trials.SomeBoards.{blank-is-good, quiet-is-good, strict-is-good, blank-and-quiet-are-alike, blank-and-quiet-differ, strict-are-alike, strict-differ}

@@ -30,7 +30,7 @@ use Rattle.act.specs.Memory.{Memory, memory, sectorSize, settingsProtection}
 use Rattle.act.specs.Answering.{hushed}
 use Rattle.act.proofs.AnsweringLaws.{others-are-told, answer-is-whole}
 use Rattle.loader.specs.declared.Session.{Session}
-use Rattle.loader.specs.Passwords.{areSame}
+use Rattle.octets.specs.Same.{areSame}
 use Rattle.loader.specs.Calling.{carriedOut, serveOf}
 use Rattle.claims.specs.TwoBoards.{Images, Running, settingsOf, started, Carries, Sending, called, next, replied, isStruck}
 use Rattle.claims.specs.Trials.{chosen, strictBoard, allFF, connects, unlocks, threeGuesses, ran}

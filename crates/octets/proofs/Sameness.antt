@@ -1,4 +1,4 @@
--- Two passwords are compared byte by byte; they are the same where the comparison says so.
+-- Bytes are compared one by one; they are the same where the comparison says so.
 use mathlib.Core.Path.{_≡_, refl, ap, _∙_}
 use mathlib.Core.Bool.{Bool, true, false, false≢true}
 use mathlib.Core.List.{List, [], _∷_}
@@ -9,9 +9,9 @@ use borrow.Author.Tests.{eq-eqb, ne-eqb, eqb-true}
 use lib.Dec.{eqb}
 use lib.ListN.{length, getD, drop, drop-of-length-le}
 use lib.Seq.{drop-cons}
 use Rattle.octets.specs.Choice.{pick}
 use Rattle.octets.proofs.Searching.{pick-true, pick-false, pick-both}
-use Rattle.loader.specs.Passwords.{areSame}
+use Rattle.octets.specs.Same.{areSame}
 
 -- from a place on, in lists of one length
 module _ (one other : List ℕ) (i : ℕ) (n : length one ≡ length other) where

@@ -1,11 +1,10 @@
--- 01, Commands, 0x21 Unlock and 0x30 Factory reset: a password is right, or wrong.
+-- The same bytes, all of them.
 use Prim.Native.Nat.{ℕ}
 use mathlib.Core.Bool.{Bool, true, false}
 use mathlib.Core.List.{List, [], _∷_}
 use lib.Dec.{eqb}
 use Rattle.octets.specs.Choice.{pick}
 
--- the same bytes, all of them
 unfoldable pub areSame : List ℕ → List ℕ → Bool
 areSame [] [] = true
 areSame [] (other ∷ others) = false
