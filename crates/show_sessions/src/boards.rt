@@ -28,8 +28,9 @@ fn settings_in(bytes: &[u8]) -> Settings {
     }
 }
 
-// Writes the settings of a board into its flash, which is blank before and holds the row's bytes for a while.
+// Writes the settings of a board into its flash, which holds the row's bytes for a while.
 pub(crate) fn put_settings(row: &[u8], image: &mut [u8]) {
+    stores::fill(image, 0xFF);
     if !rows::has_bytes(row) {
         return;
     }

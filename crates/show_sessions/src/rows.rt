@@ -1,15 +1,17 @@
-// A row of a script: a name, some bytes in hexadecimal, how many bytes they make, and a wait. The last of the bytes is taken as
+// A row: a name, some bytes in hexadecimal, how many bytes they make, a wait, and the line's end. The last of the bytes is taken as
 // often as it takes to make so many.
 pub(crate) const ROW_SIZE: usize = 74;
 
+pub(crate) const LINE_END_AT: usize = 73;
+
 // Where a row has its mark, its first byte, and its two numbers.
-const MARK_AT: usize = 32;
+const MARK_AT: usize = 31;
 
-const BYTES_AT: usize = 33;
+const BYTES_AT: usize = 32;
 
-const COUNT_AT: usize = 63;
+const COUNT_AT: usize = 62;
 
-const WAIT_AT: usize = 69;
+const WAIT_AT: usize = 68;
 
 // There is room for so many bytes.
 const MOST_BYTES: u32 = 10;
@@ -35,6 +37,11 @@ pub(crate) fn count_in(row: &[u8]) -> u32 {
 
 pub(crate) fn wait_in(row: &[u8]) -> u32 {
     number_of(octets::part_of(row, WAIT_AT, 5))
+}
+
+// The row of a board has the names of the two columns where the others have their numbers.
+pub(crate) fn is_board(row: &[u8]) -> bool {
+    octets::byte_at(row, COUNT_AT) == b'c'
 }
 
 // Whether the bytes are a packet as it stands, and no core.

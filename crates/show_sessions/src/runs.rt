@@ -1,18 +1,24 @@
-// A script, run over its board.
+// Rows, run over their boards.
 use crate::boards;
 use crate::lines;
 use crate::packets;
 use crate::rows;
+use crate::rows::LINE_END_AT;
 use crate::rows::ROW_SIZE;
 use crate::text;
 use loader::Called;
 use loader::Session;
 use wire::codes;
 
+fn say_row(row: &[u8]) {
+    text::say(b"\n");
+    text::say(octets::part_of(row, 0, LINE_END_AT));
+}
+
 // The line of a call, and the session for the next one.
 fn show_call(row: &[u8], called: Called, main: &[u8], image: &[u8], area: &[u8]) -> Session {
     let answer = called.answer;
-    text::say(row);
+    say_row(row);
     lines::show_standing(called.session.standing);
     lines::show_flash(main, image);
     lines::show_answer(answer, area);
@@ -35,32 +41,39 @@ fn call(session: Session, main: &mut [u8], image: &mut [u8], row: &[u8]) -> Sess
     show_call(row, called, main, image, &area)
 }
 
-// The rows after the board's, one after the other.
-fn run_rows(first: Session, main: &mut [u8], image: &mut [u8], script: &[u8]) {
-    let mut session = first;
-    for i in 1..script.len() / ROW_SIZE {
-        session = call(
-            session,
-            main,
-            image,
-            octets::part_of(script, ROW_SIZE * i, ROW_SIZE),
-        );
-    }
-}
-
 // The row of the board, and the names of the columns.
 fn show_board(row: &[u8]) {
     text::say(b"\n");
-    text::say(row);
+    say_row(row);
     text::say(b"  phase    sleep  idle wrong  rate  main   set reply");
 }
 
-// MAIN has 4,096 bytes, none of them 0xFF at first.
-pub(crate) fn run(script: &[u8]) {
-    let mut main = [0x5A; 4096];
-    let mut image = [0xFF; settings::IMAGE_SIZE];
-    boards::put_settings(script, &mut image);
-    show_board(octets::part_of(script, 0, ROW_SIZE));
-    let started = loader::start(false, &main, &image);
-    run_rows(started.session, &mut main, &mut image, script);
+// The board of a row. MAIN has no byte 0xFF at first.
+fn start(main: &mut [u8], image: &mut [u8], row: &[u8]) -> Session {
+    stores::fill(main, 0x5A);
+    boards::put_settings(row, image);
+    show_board(row);
+    loader::start(false, main, image).session
+}
+
+fn step(session: Session, main: &mut [u8], image: &mut [u8], row: &[u8]) -> Session {
+    if rows::is_board(row) {
+        return start(main, image, row);
+    }
+    call(session, main, image, row)
+}
+
+// The rows of boards and of their calls, one after the other.
+pub(crate) fn run(input: &[u8]) {
+    let mut main = [0x5Au8; 4096];
+    let mut image = [0xFFu8; settings::IMAGE_SIZE];
+    let mut session = loader::start(false, &main, &image).session;
+    for i in 0..input.len() / ROW_SIZE {
+        session = step(
+            session,
+            &mut main,
+            &mut image,
+            octets::part_of(input, ROW_SIZE * i, ROW_SIZE),
+        );
+    }
 }
