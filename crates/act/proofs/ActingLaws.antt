@@ -11,8 +11,8 @@ use Rattle.octets.proofs.Searching.{by-pick}
 use Rattle.wire.specs.Codes as codes
 use Rattle.wire.specs.declared.Guarded.{Guarded}
 use Rattle.wire.specs.declared.Guarded.the-variants as guarded
-use Rattle.judge.specs.declared.Effect.{Effect}
-use Rattle.judge.specs.declared.Effect.the-variants.{Say, TellInfo, Strike, Perform}
+use Rattle.decisions.specs.declared.Effect.{Effect}
+use Rattle.decisions.specs.declared.Effect.the-variants.{Say, TellInfo, Strike, Perform}
 use Rattle.regions.specs.declared.Region.{Region}
 use Rattle.regions.specs.declared.Region.the-variants.{Main, Settings, Outside}
 use Rattle.regions.specs.declared.Place.{Place}

@@ -16,8 +16,8 @@ use Rattle.replies.specs.declared.Reply.{Reply}
 use Rattle.replies.specs.declared.Reply.the-variants.{Silence, Acknowledged, Message, Info, Bytes, Sum}
 use Rattle.replies.specs.Replies.{replyBytes, Sent, sent, sentOf}
 use Rattle.replies.proofs.ReplyLaws.{sent-fits, reply-is-sent}
-use Rattle.judge.specs.declared.Effect.{Effect}
-use Rattle.judge.specs.declared.Effect.the-variants.{Say, TellInfo, Strike, Perform}
+use Rattle.decisions.specs.declared.Effect.{Effect}
+use Rattle.decisions.specs.declared.Effect.the-variants.{Say, TellInfo, Strike, Perform}
 use Rattle.regions.specs.declared.Region.{Region}
 use Rattle.regions.specs.declared.Region.the-variants.{Main, Settings, Outside}
 use Rattle.regions.specs.Regions.{mspm0Part, placeOf}

@@ -15,9 +15,9 @@ use Rattle.values.specs.declared.Shown.{Shown}
 use Rattle.sectors.specs.Protection.{mayChange}
 use Rattle.sectors.specs.Erasing.{eraseAllOf}
 use Rattle.sectors.proofs.ErasingLaws.{erase-all-keeps-length, erase-all-in-one-sector}
-use Rattle.judge.specs.declared.Effect.{Effect}
-use Rattle.judge.specs.declared.Effect.the-variants.{Say, TellInfo, Strike, Perform}
-use Rattle.judge.proofs.JudgeLaws.{isPerformed}
+use Rattle.decisions.specs.declared.Effect.{Effect}
+use Rattle.decisions.specs.declared.Effect.the-variants.{Say, TellInfo, Strike, Perform}
+use Rattle.decisions.proofs.EffectTests.{isPerformed}
 use Rattle.act.specs.Memory.{Memory, Board, sectorSize}
 use Rattle.act.specs.Erasing.{allErased}
 use Rattle.act.specs.Showing.{versionSize, versionAt}

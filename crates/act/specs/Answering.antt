@@ -7,7 +7,7 @@ use Rattle.wire.specs.Commands.{isSilent}
 use Rattle.replies.specs.declared.Reply.{Reply}
 use Rattle.replies.specs.declared.Reply.the-variants.{Silence, Acknowledged, Message, Info, Bytes, Sum}
 use Rattle.replies.specs.Replies.{replyBytes, Sent, sentOf}
-use Rattle.judge.specs.declared.Effect.{Effect}
+use Rattle.decisions.specs.declared.Effect.{Effect}
 use Rattle.act.specs.Memory.{Memory}
 use Rattle.act.specs.Acting.{bytesAsked}
 

@@ -6,7 +6,7 @@ use crate::erasing;
 use crate::memory::SECTOR_SIZE;
 use crate::programming;
 use crate::showing;
-use judge::Effect;
+use decisions::Effect;
 use replies::Reply;
 use values::Shown;
 use wire::Guarded;

@@ -1,13 +1,15 @@
 // What is sent of an answer.
 ghost use mathlib.Core.Path.{_≡_};
+ghost use Rattle.wire.specs.Commands.{isSilent};
 ghost use Rattle.replies.specs.Replies.{sent};
 ghost use Rattle.act.specs.Memory.{memory};
 ghost use Rattle.act.specs.Acting.{bytesOfTask, bytesAsked};
 ghost use Rattle.act.specs.Answering.{withoutCore, hushed, answerOf};
 use crate::memory;
 use crate::showing;
-use judge::Effect;
+use decisions::Effect;
 use replies::Reply;
+use wire::CORE_AT;
 use wire::Guarded;
 use wire::codes;
 
@@ -29,11 +31,24 @@ fn without_core(reply: Reply) -> Reply
     }
 }
 
+// Whether the packet's command never gets a core reply, by its command byte alone.
+fn is_silent(packet: &[u8]) -> bool
+    ensures { λ r. ⌜ r ≡ isSilent (now (packet .entry)) ⌝ }
+{
+    match octets::byte_at(packet, CORE_AT) {
+        codes::CONNECT => true,
+        codes::PROGRAM_FAST => true,
+        codes::START => true,
+        codes::RATE => true,
+        _ => false,
+    }
+}
+
 // A silent command gets no core reply.
 fn hush(packet: &[u8], reply: Reply) -> Reply
     ensures { λ r. ⌜ r ≡ hushed (now (packet .entry)) reply ⌝ }
 {
-    if wire::is_silent(packet) {
+    if is_silent(packet) {
         return without_core(reply);
     }
     reply

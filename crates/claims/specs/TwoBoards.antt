@@ -16,7 +16,7 @@ use Rattle.values.specs.declared.Settings.{Settings}
 use Rattle.layout.specs.Layout.{form1}
 use Rattle.settings.specs.Reader.{readOf}
 use Rattle.sectors.specs.Protection.{mayChange}
-use Rattle.judge.specs.Unlocking.{alertReset}
+use Rattle.decisions.specs.Unlocking.{alertReset}
 use Rattle.act.specs.Memory.{Memory, sectorSize, settingsProtection}
 use Rattle.act.specs.Showing.{versionAt}
 use Rattle.loader.specs.declared.Session.{Session}

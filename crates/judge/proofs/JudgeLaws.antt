@@ -4,43 +4,28 @@ use mathlib.Core.Bool.{Bool, true, false, true≢false, false≢true}
 use mathlib.Core.List.{List}
 use Prim.Native.Nat.{ℕ, _≤_, _<_}
 use native.Mathlib.Omega.{arith}
-use borrow.Author.Tests.{ltb-true}
-use lib.Dec.{ltb, eqb}
+use lib.Dec.{eqb}
 use lib.ListN.{length}
 use Rattle.octets.specs.Choice.{pick}
-use Rattle.octets.proofs.Searching.{pick-true, by-test, by-pick}
-use Rattle.wire.specs.Acknowledgement.{isRate}
+use Rattle.octets.proofs.Searching.{pick-true, by-test}
 use Rattle.standing.specs.declared.Phase.{Phase}
 use Rattle.standing.specs.declared.Phase.the-variants.{Detect, Command, Standby, Ended, Disabled}
 use Rattle.standing.specs.declared.Standing.{Standing}
 use Rattle.standing.specs.declared.Passed.{Passed}
-use Rattle.standing.specs.Phases.{mostWrong, isUnlocked, isValidPhase, isValid}
+use Rattle.standing.specs.Phases.{mostWrong, isUnlocked, isValid}
 use Rattle.standing.specs.Waits.{movedTo, dropped, passTimeIn, passTime}
 use Rattle.standing.proofs.PhaseLaws.{Valid, valid-by-parts, parts-make-valid}
 use Rattle.standing.proofs.WaitLaws.{time-keeps-valid, time-keeps-wrong-count-and-rate, time-never-unlocks, long-wait-is-heard}
-use Rattle.judge.specs.declared.Effect.{Effect}
-use Rattle.judge.specs.declared.Effect.the-variants.{Say, TellInfo, Strike, Perform}
-use Rattle.judge.specs.declared.Judged.{Judged}
-use Rattle.judge.specs.Unlocking.{countedUp, afterWrong, asleep, alertReset, alertDisable}
+use Rattle.decisions.specs.declared.Effect.the-variants.{Strike}
+use Rattle.decisions.specs.declared.Judged.{Judged}
+use Rattle.decisions.specs.Unlocking.{asleep, alertReset, alertDisable}
+use Rattle.decisions.proofs.EffectTests.{isPerformed, isStrike}
+use Rattle.decisions.proofs.UnlockingLaws.{counted-up, wrong-is-valid}
 use Rattle.judge.specs.Hearing.{silently, heardIn, heardAfter, judgedOf}
 use Rattle.judge.proofs.OutcomeLaws.{judged-by-outcome}
 
 never : {C : Type 0} → false ≡ true → C
 never h = absurd (false≢true h)
-
--- a protected command is performed
-abbrev pub isPerformed : Effect → Bool
-isPerformed (Say reply) = false
-isPerformed TellInfo = false
-isPerformed Strike = false
-isPerformed (Perform task) = true
-
--- the alert erases
-abbrev isStrike : Effect → Bool
-isStrike (Say reply) = false
-isStrike TellInfo = false
-isStrike Strike = true
-isStrike (Perform task) = false
 
 -- 01, Phases and waits, (a): "in standby, ended and disabled"
 abbrev pub isOver : Phase → Bool
@@ -49,19 +34,6 @@ isOver (Command unlocked sleep) = false
 isOver Standby = true
 isOver Ended = true
 isOver Disabled = true
-
--- one more is not fewer, and at most three
-pub counted-up : (wrong : ℕ) → (wrong ≤ mostWrong → wrong ≤ countedUp wrong) × (countedUp wrong ≤ mostWrong)
-unfolding countedUp
-counted-up wrong =
-    by-pick (λ (n : ℕ). (wrong ≤ mostWrong → wrong ≤ n) × (n ≤ mostWrong)) (ltb wrong mostWrong) _ _
-    (λ y. let few = ltb-true wrong mostWrong y in (λ h. omega arith, omega arith))
-    (λ n. (λ h. h, omega arith))
-
-wrong-is-valid : (standing : Standing) (phase : Phase) → Valid standing → isValidPhase phase ≡ true → isValid (afterWrong standing phase) ≡ true
-unfolding isRate pick
-wrong-is-valid standing phase v p =
-    parts-make-valid (afterWrong standing phase) (record { idle = v .idle; wrong = counted-up (standing .wrong) .1; rate = refl; phase = p })
 
 module _ (standing : Standing) (alert wait : ℕ) (packet : List ℕ) (right : Bool) where
   -- ---- what every packet keeps

@@ -23,10 +23,10 @@ use Rattle.standing.specs.declared.Phase.the-variants as phase
 use Rattle.standing.specs.declared.Standing.{Standing}
 use Rattle.standing.specs.Phases.{mostWrong, isUnlocked}
 use Rattle.standing.specs.Waits.{movedTo, passTime}
-use Rattle.judge.specs.declared.Effect.the-variants.{Say, TellInfo, Strike, Perform}
-use Rattle.judge.specs.declared.Judged.{Judged}
-use Rattle.judge.specs.Judgement.{judged, says}
-use Rattle.judge.specs.Unlocking.{afterRight, countedUp, afterWrong, asleep, alertReset, alertDisable, alerted, triedWrong, tried}
+use Rattle.decisions.specs.declared.Effect.the-variants.{Say, TellInfo, Strike, Perform}
+use Rattle.decisions.specs.declared.Judged.{Judged}
+use Rattle.decisions.specs.Judgement.{judged, says}
+use Rattle.decisions.specs.Unlocking.{afterRight, countedUp, afterWrong, asleep, alertReset, alertDisable, alerted, triedWrong, tried}
 use Rattle.judge.specs.Obeying.{withRate, obeyed}
 use Rattle.judge.specs.Hearing.{detected, heardInDetect, stirred, heardInCommand, heardIn, heardAfter, judgedOf}
 

@@ -21,13 +21,13 @@ use Rattle.standing.specs.Phases.{mostWrong, isValid}
 use Rattle.standing.specs.Waits.{passTime}
 use Rattle.standing.proofs.PhaseLaws.{valid-by-parts}
 use Rattle.standing.proofs.WaitLaws.{time-keeps-wrong-count-and-rate}
-use Rattle.judge.specs.declared.Judged.{Judged}
-use Rattle.judge.specs.declared.Effect.the-variants.{Strike}
-use Rattle.judge.specs.Unlocking.{countedUp, alertReset, tried}
+use Rattle.decisions.specs.declared.Judged.{Judged}
+use Rattle.decisions.specs.declared.Effect.the-variants.{Strike}
+use Rattle.decisions.specs.Unlocking.{countedUp, alertReset, tried}
+use Rattle.decisions.proofs.UnlockingLaws.{counted-up}
 use Rattle.judge.specs.Obeying.{obeyed}
 use Rattle.judge.specs.Hearing.{silently, stirred, heardInCommand, heardIn, heardAfter, judgedOf}
 use Rattle.judge.proofs.OutcomeLaws.{judged-by-outcome}
-use Rattle.judge.proofs.JudgeLaws.{counted-up}
 
 -- ---- the password bit
 

@@ -16,8 +16,8 @@ use Rattle.standing.specs.declared.Phase.the-variants as phase
 use Rattle.standing.specs.declared.Standing.{Standing}
 use Rattle.standing.specs.declared.Passed.{Passed}
 use Rattle.standing.specs.Waits.{movedTo, passTime}
-use Rattle.judge.specs.declared.Judged.{Judged}
-use Rattle.judge.specs.Judgement.{says}
+use Rattle.decisions.specs.declared.Judged.{Judged}
+use Rattle.decisions.specs.Judgement.{says}
 use Rattle.judge.specs.Obeying.{obeyed}
 
 -- "no reply"

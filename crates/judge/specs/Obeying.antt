@@ -10,10 +10,10 @@ use Rattle.replies.specs.declared.Reply.the-variants.{Acknowledged, Message}
 use Rattle.standing.specs.declared.Phase.the-variants.{Ended}
 use Rattle.standing.specs.declared.Standing.{Standing}
 use Rattle.standing.specs.Waits.{movedTo}
-use Rattle.judge.specs.declared.Effect.the-variants.{TellInfo, Perform}
-use Rattle.judge.specs.declared.Judged.{Judged}
-use Rattle.judge.specs.Judgement.{judged, says}
-use Rattle.judge.specs.Unlocking.{tried}
+use Rattle.decisions.specs.declared.Effect.the-variants.{TellInfo, Perform}
+use Rattle.decisions.specs.declared.Judged.{Judged}
+use Rattle.decisions.specs.Judgement.{judged, says}
+use Rattle.decisions.specs.Unlocking.{tried}
 
 -- "0x52 Rate: the id holds after the reply."
 abbrev pub withRate : Standing → ℕ → Standing

@@ -1,13 +1,14 @@
 // Hearing a packet: after the wait, by the phase, and by its acknowledgement.
 ghost use mathlib.Core.Path.{_≡_};
 ghost use mathlib.Core.Bool.{false};
+ghost use Rattle.wire.specs.Commands.{isKnown};
 ghost use Rattle.standing.specs.declared.Phase.the-variants as phase;
 ghost use Rattle.standing.specs.Waits.{movedTo};
 ghost use Rattle.judge.specs.Hearing.{silently, heardInDetect, stirred, heardInCommand, judgedOf};
-use crate::Effect;
-use crate::Judged;
 use crate::judgement;
 use crate::obeying;
+use decisions::Effect;
+use decisions::Judged;
 use replies::Reply;
 use standing::Phase;
 use standing::Standing;
@@ -51,11 +52,27 @@ fn heard_in_detect(standing: Standing, packet: &[u8]) -> Judged
     judgement::acknowledges(connected(standing), codes::ACKNOWLEDGED)
 }
 
+// Whether the command byte was one of the twelve.
+fn is_known(command: Command) -> bool
+    ensures { λ r. ⌜ r ≡ isKnown command ⌝ }
+{
+    match command {
+        Command::Connect => true,
+        Command::Info => true,
+        Command::Unlock => true,
+        Command::Guarded(_) => true,
+        Command::Start => true,
+        Command::Rate(_) => true,
+        Command::WrongLength => true,
+        Command::Unknown => false,
+    }
+}
+
 // A command byte that is one of the twelve ends idle time.
 fn stirred(standing: Standing, command: Command) -> Standing
     ensures { λ r. ⌜ r ≡ stirred standing command ⌝ }
 {
-    if wire::is_known(command) {
+    if is_known(command) {
         let phase = standing.phase;
         return Standing {
             phase,

@@ -1,9 +1,9 @@
 // What is decided of a packet where no fuse is burnt. An acknowledgement and a message are said so often that each has a name.
 ghost use mathlib.Core.Path.{_≡_};
 ghost use Rattle.replies.specs.declared.Reply.the-variants.{Acknowledged, Message};
-ghost use Rattle.judge.specs.Judgement.{judged, says};
-use crate::Effect;
-use crate::Judged;
+ghost use Rattle.decisions.specs.Judgement.{judged, says};
+use decisions::Effect;
+use decisions::Judged;
 use replies::Reply;
 use standing::Standing;
 

@@ -3,24 +3,5 @@
 mod hearing;
 mod judgement;
 mod obeying;
-mod unlocking;
 
 pub use hearing::judge;
-use replies::Reply;
-use standing::Standing;
-use wire::Guarded;
-
-// What is to be done. Only a session that is unlocked is told to perform a protected command.
-pub enum Effect {
-    Say(Reply),
-    TellInfo,
-    Strike,
-    Perform(Guarded),
-}
-
-// How the session stands then, what is to be done, and whether the board burns its fuse.
-pub struct Judged {
-    pub standing: Standing,
-    pub effect: Effect,
-    pub burn: bool,
-}

@@ -3,10 +3,9 @@ ghost use mathlib.Core.Path.{_≡_};
 ghost use Rattle.standing.specs.declared.Phase.the-variants.{Ended};
 ghost use Rattle.standing.specs.Waits.{movedTo};
 ghost use Rattle.judge.specs.Obeying.{withRate, obeyed};
-use crate::Effect;
-use crate::Judged;
 use crate::judgement;
-use crate::unlocking;
+use decisions::Effect;
+use decisions::Judged;
 use standing::Phase;
 use standing::Standing;
 use wire::Command;
@@ -48,7 +47,7 @@ pub(crate) fn obeyed(
     match command {
         Command::Connect => judgement::acknowledges(standing, codes::ACKNOWLEDGED),
         Command::Info => judgement::judged(standing, Effect::TellInfo),
-        Command::Unlock => unlocking::tried(standing, alert, right),
+        Command::Unlock => decisions::tried(standing, alert, right),
         Command::Guarded(task) => {
             if unlocked {
                 return judgement::judged(standing, Effect::Perform(task));

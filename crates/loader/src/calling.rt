@@ -7,8 +7,8 @@ use crate::CallAnswer;
 use crate::Called;
 use crate::Session;
 use crate::records;
-use judge::Effect;
-use judge::Judged;
+use decisions::Effect;
+use decisions::Judged;
 use replies::Reply;
 use wire::FIRST_AT;
 use wire::codes;
@@ -24,7 +24,7 @@ fn judge_packet(session: Session, wait: u32, packet: &[u8]) -> Judged
 {
     let settings = session.settings;
     let tried = octets::part_of(packet, FIRST_AT, PASSWORD_SIZE);
-    let right = octets::are_same(&settings.password, tried);
+    let right = alike::are_same(&settings.password, tried);
     judge::judge(session.standing, settings.shown.alert, wait, packet, right)
 }
 
@@ -40,7 +40,7 @@ fn act_on(
 {
     let settings = session.settings;
     let tried = octets::part_of(packet, FIRST_AT, RESET_PASSWORD_SIZE);
-    let right = octets::are_same(&settings.reset_password, tried);
+    let right = alike::are_same(&settings.reset_password, tried);
     act::act(
         effect,
         settings.shown,

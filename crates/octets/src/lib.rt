@@ -1,10 +1,8 @@
-// Bytes read: one, some, numbers of two and four, a test at each, and how many there are.
+// Bytes read: one, some, numbers of two and four, and how many there are.
 ghost use mathlib.Core.Path.{_≡_};
 ghost use Prim.Native.Nat.{_-_, min};
 ghost use lib.ListN.{getD};
 ghost use Rattle.octets.specs.Number.{part, numberAt};
-ghost use Rattle.octets.specs.Search.{allAre};
-ghost use Rattle.octets.specs.Same.{areSame};
 
 // The lesser of two numbers.
 pub fn least(a: usize, b: usize) -> usize
@@ -53,37 +51,4 @@ pub fn number32_at(bytes: &[u8], at: usize) -> u32
     let low = number16_at(four, 0);
     let high = number16_at(four, 2);
     low as u32 + 65536 * (high as u32)
-}
-
-// Whether every byte is the given one.
-pub fn all_are(value: u8, bytes: &[u8]) -> bool
-    ensures { λ r. ⌜ r ≡ allAre value (now (bytes .entry)) ⌝ }
-{
-    let mut all = true;
-    let mut i = 0;
-    while i < bytes.len() {
-        if bytes[i] != value {
-            all = false;
-        }
-        i += 1;
-    }
-    all
-}
-
-// Whether these are the same bytes. Every byte is looked at, also after one that differs.
-pub fn are_same(some: &[u8], others: &[u8]) -> bool
-    ensures { λ r. ⌜ r ≡ areSame (now (some .entry)) (now (others .entry)) ⌝ }
-{
-    if some.len() != others.len() {
-        return false;
-    }
-    let mut same = true;
-    let mut i = 0;
-    while i < some.len() {
-        if some[i] != others[i] {
-            same = false;
-        }
-        i += 1;
-    }
-    same
 }

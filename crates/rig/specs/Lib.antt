@@ -1,5 +1,3 @@
--- The boundary to C, in reading order; docs/RECORD.md has the same in words.
--- Records: a session as bytes, and bytes as a session.
-pub mod Records
+-- The boundary to C; docs/RECORD.md has the same in words.
 -- Boundary: what each function leaves.
 pub mod Boundary

@@ -6,7 +6,7 @@ use lib.Dec.{eqb}
 use lib.ListN.{length, getD, take}
 use Rattle.octets.specs.Choice.{pick}
 use Rattle.octets.specs.Number.{part, numberAt}
-use Rattle.octets.specs.Search.{allAre}
+use Rattle.alike.specs.Alike.{allAre}
 use Rattle.checksum.specs.Checksum.{checksumOf}
 use Rattle.layout.specs.Layout.{Layout, imageSize, checksumAt, countOf, bodiesEnd}
 use Rattle.layout.specs.Entries.{differingEntry}

@@ -37,7 +37,7 @@ fn form_unknown(image: &[u8]) -> bool
 fn filler_differs(image: &[u8]) -> bool
     ensures { λ r. ⌜ r ≡ fillerDiffers form1 (now (image .entry)) ⌝ }
 {
-    !octets::all_are(0xFF, octets::part_of(image, BODIES_END, FILLER_SIZE))
+    !alike::all_are(0xFF, octets::part_of(image, BODIES_END, FILLER_SIZE))
 }
 
 // A value that is not allowed, or a last byte of body 3 that is not 0.
@@ -107,7 +107,7 @@ pub fn read(image: &[u8]) -> Reading
     if image.len() != IMAGE_SIZE {
         return refused(ReadAnswer::SizeWrong);
     }
-    if octets::all_are(0xFF, image) {
+    if alike::all_are(0xFF, image) {
         return accepting(values::blank());
     }
     read_written(image)

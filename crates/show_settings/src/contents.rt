@@ -51,7 +51,7 @@ fn show_part(names: &[u8], row: u8, image: &[u8], at: usize, count: usize) {
 fn show_filler(names: &[u8], row: u8, image: &[u8]) {
     let filler = octets::part_of(image, 126, CHECKSUM_AT - 126);
     text::say_name(names, row);
-    if octets::all_are(0xFF, filler) {
+    if alike::all_are(0xFF, filler) {
         text::say_number(filler.len() as u64);
     }
 }

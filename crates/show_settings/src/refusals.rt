@@ -70,7 +70,7 @@ fn show_writing(names: &[u8], row: u8, settings: Settings, area: &mut [u8]) {
     let answer = settings::write(settings, area);
     text::say_name(names, row);
     answers::say_answer(answers::write_number(answer), 0);
-    if octets::all_are(LENT, area) {
+    if alike::all_are(LENT, area) {
         text::say(b", area unchanged");
     }
 }

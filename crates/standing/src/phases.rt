@@ -7,6 +7,7 @@ use crate::MOST_SLEEP;
 use crate::MOST_WRONG;
 use crate::Phase;
 use crate::Standing;
+use crate::rates;
 
 // How a session stands at start.
 pub fn at_start() -> Standing
@@ -48,7 +49,10 @@ pub fn is_valid(standing: Standing) -> bool
     if MOST_WRONG < standing.wrong {
         return false;
     }
-    if !wire::is_rate(standing.rate) {
+    if standing.rate < rates::FIRST_ID {
+        return false;
+    }
+    if rates::LAST_ID < standing.rate {
         return false;
     }
     let phase = standing.phase;

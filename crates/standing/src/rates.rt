@@ -3,7 +3,9 @@ ghost use mathlib.Core.Path.{_≡_};
 ghost use Rattle.standing.specs.Rates.{rateOf};
 
 // The ids are 1 to 9.
-const LAST_ID: u8 = 9;
+pub(crate) const FIRST_ID: u8 = 1;
+
+pub(crate) const LAST_ID: u8 = 9;
 
 // Indexed by the id; no rate has the id 0.
 const RATES: [u32; 10] = [

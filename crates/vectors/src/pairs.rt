@@ -50,7 +50,7 @@ fn show_answer(packet: &[u8], expected: &[u8]) {
     let mut area = [0u8; codes::REPLY_LIMIT];
     let size = boards::put_reply(packet, &mut area);
     let reply = octets::part_of(&area, 0, size);
-    say_verdict(octets::are_same(reply, expected));
+    say_verdict(alike::are_same(reply, expected));
     text::say_bytes(reply);
 }
 

@@ -16,7 +16,7 @@ pub(crate) fn length_in(packet: &[u8]) -> u16
 }
 
 // Whether this is the id of a rate.
-pub fn is_rate(id: u8) -> bool
+fn is_rate(id: u8) -> bool
     ensures { λ r. ⌜ r ≡ isRate id ⌝ }
 {
     if id < 1 {

@@ -2,7 +2,7 @@
 ghost use mathlib.Core.Path.{_≡_};
 ghost use mathlib.Core.Bool.{true};
 ghost use Rattle.wire.specs.Codes.{isOneOf};
-ghost use Rattle.wire.specs.Commands.{lengthFits, guardedOf, guardedIn, openOf, commandOf, isKnown, isSilent};
+ghost use Rattle.wire.specs.Commands.{lengthFits, guardedOf, guardedIn, openOf, commandOf};
 use crate::CORE_AT;
 use crate::Command;
 use crate::FIRST_AT;
@@ -11,7 +11,7 @@ use crate::SECOND_AT;
 use crate::acknowledgement;
 use crate::codes;
 
-// The twelve commands; those that are protected; those that never get a core reply.
+// The twelve commands; those that are protected.
 const COMMANDS: [u8; 12] = [
     codes::CONNECT,
     codes::INFO,
@@ -35,13 +35,6 @@ const PROTECTED: [u8; 7] = [
     codes::READ_BACK,
     codes::VERIFY,
     codes::FACTORY_RESET,
-];
-
-const SILENT: [u8; 4] = [
-    codes::CONNECT,
-    codes::PROGRAM_FAST,
-    codes::START,
-    codes::RATE,
 ];
 
 fn is_one_of(code: u8, codes: &[u8]) -> bool
@@ -156,27 +149,4 @@ pub fn read_command(packet: &[u8]) -> Command
         return Command::WrongLength;
     }
     open_of(code, octets::byte_at(packet, FIRST_AT))
-}
-
-// Whether the command byte was one of the twelve.
-pub fn is_known(command: Command) -> bool
-    ensures { λ r. ⌜ r ≡ isKnown command ⌝ }
-{
-    match command {
-        Command::Connect => true,
-        Command::Info => true,
-        Command::Unlock => true,
-        Command::Guarded(_) => true,
-        Command::Start => true,
-        Command::Rate(_) => true,
-        Command::WrongLength => true,
-        Command::Unknown => false,
-    }
-}
-
-// Whether the packet's command never gets a core reply, by its command byte alone.
-pub fn is_silent(packet: &[u8]) -> bool
-    ensures { λ r. ⌜ r ≡ isSilent (now (packet .entry)) ⌝ }
-{
-    is_one_of(octets::byte_at(packet, CORE_AT), &SILENT)
 }

@@ -4,9 +4,6 @@ pub mod codes;
 mod commands;
 
 pub use acknowledgement::acknowledge;
-pub use acknowledgement::is_rate;
-pub use commands::is_known;
-pub use commands::is_silent;
 pub use commands::read_command;
 
 // A packet has seven bytes beside its core: a header, the core's length L, and the core's checksum at its end.

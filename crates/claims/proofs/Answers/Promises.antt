@@ -7,13 +7,11 @@ use Prim.Native.Nat.{ℕ, _-_, min}
 use lib.ListN.{length, getD, replicate}
 use lib.Seq.{sets}
 use Rattle.octets.specs.Number.{part, numberAt, bytesOf}
-use Rattle.octets.specs.Search.{allAre}
-use Rattle.octets.specs.Same.{areSame}
+use Rattle.alike.specs.Alike.{allAre, areSame}
 use Rattle.hex.specs.Hex.{hexOf}
 use Rattle.checksum.specs.Checksum.{checksumFrom, checksumOf}
-use Rattle.wire.specs.declared.Command.{Command}
-use Rattle.wire.specs.Acknowledgement.{isRate, acknowledgement}
-use Rattle.wire.specs.Commands.{commandOf, isKnown, isSilent}
+use Rattle.wire.specs.Acknowledgement.{acknowledgement}
+use Rattle.wire.specs.Commands.{commandOf}
 use Rattle.replies.specs.declared.Reply.{Reply}
 use Rattle.replies.specs.Replies.{replyBytes, Sent, sent, sentOf}
 use Rattle.standing.specs.declared.Phase.{Phase}
@@ -37,7 +35,8 @@ use Rattle.regions.specs.Regions.{mspm0Part, placeOf}
 use Rattle.sectors.specs.Protection.{isProtected}
 use Rattle.sectors.specs.Erasing.{eraseOf, eraseAllOf}
 use Rattle.flash.specs.Programming.{programOf}
-use Rattle.judge.specs.declared.Effect.{Effect}
+use Rattle.decisions.specs.declared.Effect.{Effect}
+use Rattle.decisions.specs.Unlocking.{tried}
 use Rattle.judge.specs.Hearing.{judgedOf}
 use Rattle.act.specs.Memory.{memory, acted, board}
 use Rattle.act.specs.Acting.{actOf}
@@ -50,6 +49,7 @@ use Rattle.loader.specs.Answers.{startNumbered, startTold, callNumbered, left, 
 use Rattle.loader.specs.Starting.{startOf}
 use Rattle.loader.specs.Calling.{callOf}
 use Rattle.in_place.specs.Starting.{startLeft, startInPlace}
+use Rattle.records.specs.Records.{standingBytes, recordOf, recordRead}
 use Rattle.rig.specs.Boundary as rig
 use Rattle.script.specs.Form.{scriptTold, scriptOf, waitIn, packetIn}
 use Rattle.lines.specs.Writing.{lineOf, endOf, Written, written, writtenOf}
@@ -109,20 +109,11 @@ put-hex-is-one area at bytes = as-said (sets area at (hexOf bytes))
 
 -- ---- wire
 
-pub is-rate-is-one : (id : ℕ) → OneAnswer (λ r. r ≡ isRate id)
-is-rate-is-one id = as-said (isRate id)
-
 pub acknowledge-is-one : (packet : List ℕ) → OneAnswer (λ r. r ≡ acknowledgement packet)
 acknowledge-is-one packet = as-said (acknowledgement packet)
 
 pub read-command-is-one : (packet : List ℕ) → OneAnswer (λ r. r ≡ commandOf packet)
 read-command-is-one packet = as-said (commandOf packet)
-
-pub is-known-is-one : (command : Command) → OneAnswer (λ r. r ≡ isKnown command)
-is-known-is-one command = as-said (isKnown command)
-
-pub is-silent-is-one : (packet : List ℕ) → OneAnswer (λ r. r ≡ isSilent packet)
-is-silent-is-one packet = as-said (isSilent packet)
 
 -- ---- replies
 
@@ -211,6 +202,11 @@ erase-all-is-one memory sectorSize protection = as-said (eraseAllOf sectorSize p
 pub program-is-one : (memory : List ℕ) (sectorSize : ℕ) (protection : List ℕ) (at : ℕ) (bytes : List ℕ) → OneAnswer (λ memory'. memory' ≡ programOf sectorSize protection at bytes memory)
 program-is-one memory sectorSize protection at bytes = as-said (programOf sectorSize protection at bytes memory)
 
+-- ---- decisions
+
+pub tried-is-one : (standing : Standing) (alert : ℕ) (right : Bool) → OneAnswer (λ r. r ≡ tried standing alert right)
+tried-is-one standing alert right = as-said (tried standing alert right)
+
 -- ---- judge
 
 pub judge-is-one : (standing : Standing) (alert wait : ℕ) (packet : List ℕ) (right : Bool) → OneAnswer (λ r. r ≡ judgedOf standing alert wait packet right)
@@ -263,6 +259,17 @@ in-place-call-is-one session main image wait packet area =
     (λ l. (calledBy (l .answer), l .session, l .memory .main, l .memory .settings, l .area))
     (λ r. ap (λ answer. (answer, r .1, r .2, r .3, r .4)) (called-back (r .0)))
     (callOf session (memory main image) wait packet area)
+
+-- ---- records
+
+pub read-record-is-one : (area : List ℕ) → OneAnswer (λ r. r ≡ recordRead area)
+read-record-is-one area = as-said (recordRead area)
+
+pub put-standing-is-one : (area : List ℕ) (standing : Standing) → OneAnswer (λ area'. area' ≡ sets area 0 (standingBytes standing))
+put-standing-is-one area standing = as-said (sets area 0 (standingBytes standing))
+
+pub put-record-is-one : (area : List ℕ) (session : Session) → OneAnswer (λ area'. area' ≡ sets area 0 (recordOf session))
+put-record-is-one area session = as-said (sets area 0 (recordOf session))
 
 -- ---- rig
 

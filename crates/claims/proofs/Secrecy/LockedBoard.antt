@@ -11,7 +11,7 @@ use Rattle.standing.specs.declared.Standing.{Standing}
 use Rattle.standing.specs.Phases.{atStart, isUnlocked}
 use Rattle.sectors.specs.Erasing.{eraseAllOf}
 use Rattle.sectors.proofs.ErasingLaws.{erase-all-keeps-length, erase-all-at, erase-all-twice}
-use Rattle.judge.specs.Unlocking.{alertReset}
+use Rattle.decisions.specs.Unlocking.{alertReset}
 use Rattle.act.specs.Memory.{Memory, memory, Board, board, sectorSize, settingsProtection}
 use Rattle.act.specs.Erasing.{allErased}
 use Rattle.act.specs.Showing.{versionAt}

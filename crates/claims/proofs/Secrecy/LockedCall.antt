@@ -12,12 +12,13 @@ use Rattle.wire.specs.Codes.{replyLimit}
 use Rattle.replies.specs.Replies.{replyBytes, Sent}
 use Rattle.standing.specs.declared.Standing.{Standing}
 use Rattle.standing.specs.Phases.{isUnlocked}
-use Rattle.judge.specs.declared.Effect.{Effect}
-use Rattle.judge.specs.declared.Effect.the-variants.{Strike}
-use Rattle.judge.specs.declared.Judged.{Judged}
-use Rattle.judge.specs.Unlocking.{alertReset}
+use Rattle.decisions.specs.declared.Effect.{Effect}
+use Rattle.decisions.specs.declared.Effect.the-variants.{Strike}
+use Rattle.decisions.specs.declared.Judged.{Judged}
+use Rattle.decisions.specs.Unlocking.{alertReset}
+use Rattle.decisions.proofs.EffectTests.{isPerformed}
 use Rattle.judge.specs.Hearing.{judgedOf}
-use Rattle.judge.proofs.JudgeLaws.{isPerformed, wrong-never-unlocks, locked-performs-nothing, strikes-at-three}
+use Rattle.judge.proofs.JudgeLaws.{wrong-never-unlocks, locked-performs-nothing, strikes-at-three}
 use Rattle.judge.proofs.StrangerLaws.{only-unlock-is-compared, no-third-without-strike}
 use Rattle.act.specs.Memory.{Memory, Acted}
 use Rattle.act.specs.Answering.{hushed, answerOf}

@@ -11,10 +11,10 @@ use Rattle.replies.specs.Replies.{replyBytes}
 use Rattle.standing.specs.declared.Standing.{Standing}
 use Rattle.standing.specs.Phases.{atStart, isUnlocked}
 use Rattle.values.specs.declared.Shown.{Shown}
-use Rattle.judge.specs.declared.Effect.{Effect}
-use Rattle.judge.specs.declared.Judged.{Judged}
+use Rattle.decisions.specs.declared.Effect.{Effect}
+use Rattle.decisions.specs.declared.Judged.{Judged}
+use Rattle.decisions.proofs.EffectTests.{isPerformed}
 use Rattle.judge.specs.Hearing.{judgedOf}
-use Rattle.judge.proofs.JudgeLaws.{isPerformed}
 use Rattle.act.specs.Showing.{versionAt}
 use Rattle.act.specs.Answering.{hushed}
 use Rattle.act.proofs.LockedLaws.{told-alike}

@@ -28,19 +28,19 @@ use Rattle.layout.specs.Entries.{differingEntry}
 use Rattle.fields.specs.Bodies.{bodyIn, shownIn, settingsIn}
 use Rattle.settings.specs.Answer.{ReadTold, numbered}
 use Rattle.settings.specs.Reader.{isBlank, checksumDiffers, formUnknown, fillerDiffers, valueNotAllowed, readWritten, readOf}
-use Rattle.judge.specs.declared.Judged.{Judged}
+use Rattle.decisions.specs.declared.Judged.{Judged}
 use Rattle.judge.proofs.JudgeLaws.{judge-keeps-valid, wrong-count-rises}
 use Rattle.judge.proofs.StrangerLaws.{only-unlock-is-compared}
 use Rattle.act.specs.Memory.{Memory}
 use Rattle.act.proofs.ActingLaws.{act-keeps-lengths}
 use Rattle.loader.specs.declared.Session.{Session}
 use Rattle.loader.specs.Answers.{StartTold, Left}
-use Rattle.octets.specs.Same.{areSame}
+use Rattle.alike.specs.Alike.{areSame}
 use Rattle.loader.specs.Records.{isMainSize, isRecord}
 use Rattle.loader.specs.Starting.{sessionOf, startRead, startOf}
 use Rattle.loader.specs.Calling.{boardOf, judgement, serveOf, callOf}
 use Rattle.loader.proofs.CallLaws.{every-call}
-use Rattle.octets.proofs.Sameness.{same-are-equal}
+use Rattle.alike.proofs.AlikeLaws.{same-are-equal}
 use Rattle.loader.proofs.RecordLaws.{record-by-clauses, clauses-make-record}
 use Rattle.claims.specs.TwoBoards.{Carries}
 

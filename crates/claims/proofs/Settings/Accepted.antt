@@ -9,9 +9,10 @@ use lib.Dec.{eqb}
 use lib.ListN.{length, getD, take}
 use lib.Seq.{take-all}
 use Rattle.octets.specs.Number.{part, numberAt}
-use Rattle.octets.specs.Search.{allAre}
+use Rattle.alike.specs.Alike.{allAre}
 use Rattle.octets.proofs.Parts.{length-part, parts-join}
-use Rattle.octets.proofs.Searching.{pick-both, all-are-replicate, none-passes}
+use Rattle.octets.proofs.Searching.{pick-both, none-passes}
+use Rattle.alike.proofs.AlikeLaws.{all-are-replicate}
 use Rattle.checksum.specs.Checksum.{checksumOf}
 use Rattle.layout.specs.Layout.{form1, offsetOf, sumOf, tableOf, placeOf, pairsOf}
 use Rattle.layout.specs.Table.{filler-from-126}

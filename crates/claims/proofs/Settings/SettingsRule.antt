@@ -9,9 +9,10 @@ use borrow.Author.Tests.{eq-eqb, eqb-true, not-false}
 use lib.Dec.{eqb}
 use lib.ListN.{length, getD, replicate}
 use Rattle.octets.specs.Choice.{pick}
-use Rattle.octets.specs.Search.{allAre}
+use Rattle.alike.specs.Alike.{allAre}
 use Rattle.octets.proofs.Parts.{each-replicate}
-use Rattle.octets.proofs.Searching.{pick-both, pick-false, replicate-all-are}
+use Rattle.octets.proofs.Searching.{pick-both, pick-false}
+use Rattle.alike.proofs.AlikeLaws.{replicate-all-are}
 use Rattle.values.specs.declared.Settings.{Settings}
 use Rattle.layout.specs.Layout.{form1, imageSize}
 use Rattle.layout.specs.Entries.{differingEntry}

@@ -10,10 +10,11 @@ use lib.ListN.{length, getD, take, drop, length-append, length-replicate}
 use lib.Seq.{take-at, drop-at, take-all}
 use Rattle.octets.specs.Choice.{pick}
 use Rattle.octets.specs.Number.{numberOf, bytesOf, numberAt}
-use Rattle.octets.specs.Search.{allAre}
+use Rattle.alike.specs.Alike.{allAre}
 use Rattle.octets.proofs.Numbers.{length-bytesOf, number-of-bytes, each-bytesOf}
 use Rattle.octets.proofs.Parts.{part-there, each-none, each-cons, each-append, each-replicate}
-use Rattle.octets.proofs.Searching.{pick-both, replicate-all-are, none-found}
+use Rattle.octets.proofs.Searching.{pick-both, none-found}
+use Rattle.alike.proofs.AlikeLaws.{replicate-all-are}
 use Rattle.octets.proofs.Table.{test-at}
 use Rattle.checksum.specs.Checksum.{checksumOf}
 use Rattle.checksum.proofs.Laws.{checksum-of-fits}

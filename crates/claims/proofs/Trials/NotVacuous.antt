@@ -13,12 +13,12 @@ use Rattle.standing.specs.Phases.{isUnlocked}
 use Rattle.values.specs.Values.{blankSettings}
 use Rattle.claims.specs.TwoBoards.{Images, started, AlikeBoards, WithoutPassword, replied}
 use Rattle.claims.specs.Trials.{blankBoard, writtenBoard, quietBoard, strictBoard, Differ, allFF, connects, unlocks, threeGuesses, ran, toBlankPassword, AllWithout}
-use Rattle.judge.specs.Judgement.{says}
-use Rattle.judge.specs.Unlocking.{afterRight, countedUp, afterWrong, asleep, triedWrong, tried}
+use Rattle.decisions.specs.Judgement.{says}
+use Rattle.decisions.specs.Unlocking.{afterRight, countedUp, afterWrong, asleep, triedWrong, tried}
 use Rattle.loader.specs.Answers.{Left}
-use Rattle.octets.specs.Same.{areSame}
+use Rattle.alike.specs.Alike.{areSame}
 use Rattle.loader.specs.Calling.{carriedOut}
-use Rattle.octets.proofs.Sameness.{equal-are-same}
+use Rattle.alike.proofs.AlikeLaws.{equal-are-same}
 use Rattle.claims.proofs.Secrecy.LockedBoard.{sessionThen, later}
 use Rattle.claims.proofs.Trials.SomePackets.{stood}
 use Rattle.claims.proofs.Trials.SomeBoards.{blank-is-good, quiet-is-good, strict-is-good, blank-and-quiet-are-alike, blank-and-quiet-differ, strict-are-alike, strict-differ}

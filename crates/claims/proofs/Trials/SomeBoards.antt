@@ -14,7 +14,7 @@ use Rattle.values.specs.Values.{isAllowed, blankSettings}
 use Rattle.layout.specs.Layout.{form1}
 use Rattle.settings.specs.Answer.{ReadTold, accepted}
 use Rattle.settings.specs.Reader.{readOf}
-use Rattle.judge.specs.Unlocking.{alertReset}
+use Rattle.decisions.specs.Unlocking.{alertReset}
 use Rattle.act.specs.Showing.{versionAt}
 use Rattle.loader.specs.Records.{isMainSize}
 use Rattle.loader.specs.Starting.{startRead, startOf}

@@ -17,7 +17,7 @@ use Rattle.standing.specs.declared.Phase.the-variants.{Command}
 use Rattle.standing.specs.declared.Standing.{Standing}
 use Rattle.standing.specs.Phases.{firstRate, mostSleep, atStart}
 use Rattle.standing.specs.Waits.{isIdleTooLong, detectIdles, commandIdles, passTime}
-use Rattle.judge.specs.Unlocking.{countedUp, alertReset, alerted, triedWrong, tried}
+use Rattle.decisions.specs.Unlocking.{countedUp, alertReset, alerted, triedWrong, tried}
 use Rattle.judge.specs.Hearing.{stirred, heardInDetect, heardInCommand, heardAfter, judgedOf}
 use Rattle.claims.specs.Trials.{connects, unlocks}
 use Rattle.claims.proofs.Trials.Framing.{never-empty, core-there, framed}

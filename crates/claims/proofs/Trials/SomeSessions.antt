@@ -22,15 +22,15 @@ use Rattle.values.specs.declared.Settings.{Settings}
 use Rattle.settings.specs.Answer.{ReadTold}
 use Rattle.sectors.specs.Protection.{isProtected}
 use Rattle.sectors.proofs.ErasingLaws.{erase-all-of-open}
-use Rattle.judge.specs.declared.Effect.the-variants.{Say}
-use Rattle.judge.specs.Judgement.{says}
-use Rattle.judge.specs.Unlocking.{alertReset, tried}
+use Rattle.decisions.specs.declared.Effect.the-variants.{Say}
+use Rattle.decisions.specs.Judgement.{says}
+use Rattle.decisions.specs.Unlocking.{alertReset, tried}
 use Rattle.judge.specs.Hearing.{judgedOf}
 use Rattle.act.specs.Memory.{Memory, memory, sectorSize, settingsProtection}
 use Rattle.act.specs.Answering.{hushed}
 use Rattle.act.proofs.AnsweringLaws.{others-are-told, answer-is-whole}
 use Rattle.loader.specs.declared.Session.{Session}
-use Rattle.octets.specs.Same.{areSame}
+use Rattle.alike.specs.Alike.{areSame}
 use Rattle.loader.specs.Calling.{carriedOut, serveOf}
 use Rattle.claims.specs.TwoBoards.{Images, Running, settingsOf, started, Carries, Sending, called, next, replied, isStruck}
 use Rattle.claims.specs.Trials.{chosen, strictBoard, allFF, connects, unlocks, threeGuesses, ran}

@@ -4,9 +4,9 @@ use mathlib.Core.List.{[], _∷_}
 use Prim.Native.Nat.{ℕ}
 use denote.Enum.Declared.{tagOf}
 use types.Run.{OneOf, miss}
-use Rattle.judge.proofs.Effect.{the-type}
-use Rattle.judge.specs.declared.Effect.{Effect}
-use Rattle.judge.specs.declared.Effect.the-variants.{Say, TellInfo, Strike, Perform}
+use Rattle.decisions.proofs.Effect.{the-type}
+use Rattle.decisions.specs.declared.Effect.{Effect}
+use Rattle.decisions.specs.declared.Effect.the-variants.{Say, TellInfo, Strike, Perform}
 use Rattle.act.specs.Memory.{Memory, memory}
 use Rattle.act.specs.Acting.{bytesAsked}
 use borrow.Author.Needs.{needs}

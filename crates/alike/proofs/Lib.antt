@@ -1,0 +1,2 @@
+-- AlikeLaws: what the comparisons say, byte by byte and of all.
+pub mod AlikeLaws

@@ -1,0 +1,2 @@
+-- Alike: bytes that are all one value, and bytes that are the same.
+pub mod Alike
