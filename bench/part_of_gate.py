@@ -1,5 +1,7 @@
 """What the gate costs for some crates and all that they stand on: `rt ci` over a copy of the repository that has these alone.
-    python3 -B bench/part_of_gate.py show_settings"""
+
+    python3 -B bench/part_of_gate.py show_settings
+"""
 import pathlib
 import re
 import shutil
