@@ -6,7 +6,7 @@ use lib.ListN.{length, getD}
 use Rattle.values.specs.declared.Shown.{Shown}
 use Rattle.values.specs.declared.Settings.{Settings}
 use Rattle.loader.specs.declared.Session.{Session}
-use Rattle.records.specs.Records.{sleepOf}
+use Rattle.rig.specs.Records.{sleepOf}
 
 -- bytes: so many numbers below 256
 pub record Bytes (count : ℕ) (bytes : List ℕ) : Type 0 where

@@ -10,7 +10,7 @@ use Rattle.octets.specs.Choice.{pick}
 use Rattle.standing.specs.Phases.{mostWrong}
 use Rattle.decisions.specs.Unlocking.{alertReset}
 use Rattle.act.specs.Memory.{Memory, settingsProtection}
-use Rattle.records.specs.Records.{recordSize, fieldsAt}
+use Rattle.rig.specs.Records.{recordSize, fieldsAt}
 use Rattle.rig.specs.Boundary.{refusalUnit, burnUnit, Stored, startFromC, Called, callFromC}
 use Rattle.claims.specs.TwoBoards.{Images, settingsOf, Sending, WithoutPassword, AsClaimed}
 

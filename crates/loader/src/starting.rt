@@ -1,5 +1,6 @@
 // Starting a session: the refusals of document 01 in their order, or the session.
 ghost use mathlib.Core.Path.{_≡_};
+ghost use Rattle.standing.specs.Phases.{atStart};
 ghost use Rattle.settings.specs.Answer.{readNumbered, readTold};
 ghost use Rattle.loader.specs.Answers.{startNumbered, startTold};
 ghost use Rattle.loader.specs.Starting.{sessionOf, startRead, startOf, startRefused};
@@ -9,14 +10,29 @@ use crate::Started;
 use crate::records;
 use settings::ReadAnswer;
 use settings::Reading;
+use standing::FIRST_RATE;
+use standing::Phase;
+use standing::Standing;
 use values::Settings;
+
+// How a session stands at start.
+fn at_start() -> Standing
+    ensures { λ r. ⌜ r ≡ atStart ⌝ }
+{
+    Standing {
+        phase: Phase::Detect,
+        idle: 0,
+        wrong: 0,
+        rate: FIRST_RATE,
+    }
+}
 
 // The session of a board with this size of MAIN and these settings.
 fn session_of(main_size: u32, settings: Settings) -> Session
     ensures { λ r. ⌜ r ≡ sessionOf «main_size» settings ⌝ }
 {
     Session {
-        standing: standing::at_start(),
+        standing: at_start(),
         main_size,
         settings,
     }

@@ -1,3 +1,5 @@
 -- Laws of the boundary.
--- CallByRecord: a call from C, by what is read of the record area and what is stored of it.
-pub mod CallByRecord
+-- RecordLaws: stored piece by piece, the pieces make a record.
+pub mod RecordLaws
+-- RecordAgain: of the session that an area says, the same bytes are made again.
+pub mod RecordAgain

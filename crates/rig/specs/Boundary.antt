@@ -16,7 +16,7 @@ use Rattle.act.specs.Memory.{Memory}
 use Rattle.loader.specs.Answers.{CallTold, StartTold, Left}
 use Rattle.loader.specs.Starting.{startOf}
 use Rattle.loader.specs.Calling.{callOf}
-use Rattle.records.specs.Records.{recordSize, fieldsSize, recordOf, sessionIn, isRecordArea}
+use Rattle.rig.specs.Records.{recordSize, fieldsSize, recordOf, sessionIn, isRecordArea}
 
 -- ---- one number comes back
 

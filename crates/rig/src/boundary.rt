@@ -7,13 +7,18 @@ ghost use Rattle.fields.specs.Bodies.{bodiesOf};
 ghost use Rattle.settings.specs.Answer.{readNumbered};
 ghost use Rattle.act.specs.Memory.{memory};
 ghost use Rattle.loader.specs.Answers.{startNumbered, callNumbered};
-ghost use Rattle.records.specs.Records.{recordSize, fieldsSize, standingBytes, recordOf};
+ghost use Rattle.rig.specs.Records.{recordSize, fieldsSize, standingBytes, recordOf};
 ghost use Rattle.rig.specs.Boundary.{stored, storedBy, storedAfter, startFromC, readFromC, writeFromC, called, callFromC};
+use crate::RECORD_SIZE;
+use crate::ZERO_AT;
 use crate::answers;
+use crate::decoding;
+use crate::encoding;
 use loader::CallAnswer;
 use loader::Called;
 use loader::Started;
 use settings::Reading;
+use wire::codes;
 
 // The rate that has this id, in bits a second, or 0 where none has.
 #[no_mangle]
@@ -36,10 +41,10 @@ fn store_record(started: Started, area: &mut [u8]) -> u64
     if refusal != 0 {
         return refusal;
     }
-    if area.len() != records::RECORD_SIZE {
+    if area.len() != RECORD_SIZE {
         return answers::RECORD_NOT_VALID;
     }
-    records::put_record(area, started.session);
+    encoding::put_record(area, started.session);
     0
 }
 
@@ -87,7 +92,7 @@ pub extern "C" fn bhorelmu_settings_write(fields: &[u8], image: &mut [u8]) -> u6
     if fields.len() != fields::FIELDS_SIZE {
         return answers::RECORD_NOT_VALID;
     }
-    if octets::byte_at(fields, fields::ZERO_AT) != 0 {
+    if octets::byte_at(fields, ZERO_AT) != 0 {
         return answers::VALUE_NOT_ALLOWED;
     }
     answers::of_write(settings::write(fields::read_fields(fields), image))
@@ -95,14 +100,14 @@ pub extern "C" fn bhorelmu_settings_write(fields: &[u8], image: &mut [u8]) -> u6
 
 // Stores the record of a call that was not refused, and makes one number of its answer. Only how the session stands can have changed.
 fn store_called(call: Called, area: &mut [u8]) -> u64
-    requires { ⌜ callNumbered (call .answer) .size < 4294967296 ⌝ }
-    ensures { λ r. ⌜ stored r (now (area .exit)) ≡ storedAfter (callNumbered (call .answer)) (sets (now (area .entry)) 0 (standingBytes (call .session .standing))) (now (area .entry)) ⌝ }
+    requires { ⌜ (sets (now area) 0 (standingBytes (call .session .standing)) ≡ recordOf (call .session)) × (callNumbered (call .answer) .size < 4294967296) ⌝ }
+    ensures { λ r. ⌜ stored r (now (area .exit)) ≡ storedAfter (callNumbered (call .answer)) (recordOf (call .session)) (now (area .entry)) ⌝ }
 {
     let answer = call.answer;
     match answer {
         CallAnswer::Done { size, burn } => {
             let session = call.session;
-            records::put_standing(area, session.standing);
+            encoding::put_standing(area, session.standing);
             answers::done(burn, size)
         }
         CallAnswer::ReplyAreaTooSmall => answers::REPLY_AREA_TOO_SMALL,
@@ -110,7 +115,7 @@ fn store_called(call: Called, area: &mut [u8]) -> u64
     }
 }
 
-// A call of the session whose record the area holds. What is read of an area that is no record's, the loader refuses.
+// A call of the session whose record the area holds.
 #[no_mangle]
 pub extern "C" fn bhorelmu_call(
     area: &mut [u8],
@@ -122,7 +127,19 @@ pub extern "C" fn bhorelmu_call(
 ) -> u64
     ensures { λ r. ⌜ called r (now (area .exit)) (memory (now (main .exit)) (now (settings .exit))) (now (reply .exit)) ≡ callFromC (now (area .entry)) (memory (now (main .entry)) (now (settings .entry))) wait (now (packet .entry)) (now (reply .entry)) ⌝ }
 {
-    let session = records::read_record(area);
-    let call = loader::call(session, main, settings, wait, packet, reply);
+    if reply.len() < codes::REPLY_LIMIT {
+        return answers::REPLY_AREA_TOO_SMALL;
+    }
+    if !decoding::is_record_area(area) {
+        return answers::RECORD_NOT_VALID;
+    }
+    let call = loader::call(
+        decoding::session_in(area),
+        main,
+        settings,
+        wait,
+        packet,
+        reply,
+    );
     store_called(call, area)
 }

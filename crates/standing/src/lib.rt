@@ -3,7 +3,6 @@ mod phases;
 mod rates;
 mod waits;
 
-pub use phases::at_start;
 pub use phases::is_valid;
 pub use rates::rate_of;
 pub use waits::pass_time;

@@ -1,25 +1,12 @@
-// How a session stands at start, and which standings are valid.
+// Which standings are valid.
 ghost use mathlib.Core.Path.{_≡_};
-ghost use Rattle.standing.specs.Phases.{atStart, isValidPhase, isValid};
-use crate::FIRST_RATE;
+ghost use Rattle.standing.specs.Phases.{isValidPhase, isValid};
 use crate::MOST_IDLE;
 use crate::MOST_SLEEP;
 use crate::MOST_WRONG;
 use crate::Phase;
 use crate::Standing;
 use crate::rates;
-
-// How a session stands at start.
-pub fn at_start() -> Standing
-    ensures { λ r. ⌜ r ≡ atStart ⌝ }
-{
-    Standing {
-        phase: Phase::Detect,
-        idle: 0,
-        wrong: 0,
-        rate: FIRST_RATE,
-    }
-}
 
 // Whether lock and sleep go together.
 fn is_valid_phase(phase: Phase) -> bool

@@ -16,7 +16,7 @@ use Rattle.replies.specs.declared.Reply.{Reply}
 use Rattle.replies.specs.Replies.{replyBytes, Sent, sent, sentOf}
 use Rattle.standing.specs.declared.Phase.{Phase}
 use Rattle.standing.specs.declared.Standing.{Standing}
-use Rattle.standing.specs.Phases.{atStart, isValid}
+use Rattle.standing.specs.Phases.{isValid}
 use Rattle.standing.specs.Rates.{rateOf}
 use Rattle.standing.specs.Waits.{passTime}
 use Rattle.values.specs.declared.Shown.{Shown}
@@ -49,7 +49,6 @@ use Rattle.loader.specs.Answers.{startNumbered, startTold, callNumbered, left, 
 use Rattle.loader.specs.Starting.{startOf}
 use Rattle.loader.specs.Calling.{callOf}
 use Rattle.in_place.specs.Starting.{startLeft, startInPlace}
-use Rattle.records.specs.Records.{standingBytes, recordOf, recordRead}
 use Rattle.rig.specs.Boundary as rig
 use Rattle.script.specs.Form.{scriptTold, scriptOf, waitIn, packetIn}
 use Rattle.lines.specs.Writing.{lineOf, endOf, Written, written, writtenOf}
@@ -124,9 +123,6 @@ pub write-reply-is-one : (reply : Reply) (bytes area : List ℕ) → OneAnswer {
 write-reply-is-one reply bytes area = sent-is-one (sentOf (replyBytes reply bytes) area)
 
 -- ---- standing
-
-pub at-start-is-one : OneAnswer (λ r. r ≡ atStart)
-at-start-is-one = as-said atStart
 
 pub is-valid-is-one : (standing : Standing) → OneAnswer (λ r. r ≡ isValid standing)
 is-valid-is-one standing = as-said (isValid standing)
@@ -259,17 +255,6 @@ in-place-call-is-one session main image wait packet area =
     (λ l. (calledBy (l .answer), l .session, l .memory .main, l .memory .settings, l .area))
     (λ r. ap (λ answer. (answer, r .1, r .2, r .3, r .4)) (called-back (r .0)))
     (callOf session (memory main image) wait packet area)
-
--- ---- records
-
-pub read-record-is-one : (area : List ℕ) → OneAnswer (λ r. r ≡ recordRead area)
-read-record-is-one area = as-said (recordRead area)
-
-pub put-standing-is-one : (area : List ℕ) (standing : Standing) → OneAnswer (λ area'. area' ≡ sets area 0 (standingBytes standing))
-put-standing-is-one area standing = as-said (sets area 0 (standingBytes standing))
-
-pub put-record-is-one : (area : List ℕ) (session : Session) → OneAnswer (λ area'. area' ≡ sets area 0 (recordOf session))
-put-record-is-one area session = as-said (sets area 0 (recordOf session))
 
 -- ---- rig
 

@@ -23,7 +23,7 @@ use Rattle.loader.specs.Starting.{startOf}
 use Rattle.loader.specs.Calling.{serveOf, callOf}
 use Rattle.loader.proofs.CallLaws.{every-call, call-size-fits}
 use Rattle.loader.proofs.RecordLaws.{record-by-clauses}
-use Rattle.records.specs.Records.{recordSize, lockCode, standingBytes, recordOf}
+use Rattle.rig.specs.Records.{recordSize, lockCode, standingBytes, recordOf}
 use Rattle.rig.specs.Boundary.{refusalUnit, burnUnit, oneNumber, Stored, stored, storedBy, Called, storedAfter, calledFrom, calledAfter, callFromC}
 use Rattle.claims.specs.Held.{Held}
 use Rattle.claims.specs.TwoBoards.{Images, Running, settingsOf, started, AlikeBoards, Sending, called, next, replied, isStruck, Flash, Alike, AlikeThroughout}

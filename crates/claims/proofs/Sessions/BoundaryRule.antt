@@ -23,7 +23,7 @@ use Rattle.act.specs.Memory.{Memory}
 use Rattle.loader.specs.Answers.{Left}
 use Rattle.loader.specs.Calling.{callOf}
 use Rattle.loader.proofs.CallLaws.{refused-changes-nothing, call-size-fits}
-use Rattle.records.specs.Records.{recordSize, fieldsSize, recordOf, sessionIn, isRecordArea}
+use Rattle.rig.specs.Records.{recordSize, fieldsSize, recordOf, sessionIn, isRecordArea}
 use Rattle.rig.specs.Boundary.{refusalUnit, burnUnit, oneNumber, refusal, refusalOf, Stored, storedBy, startByFuse, startFromC, readFromC, writeFromC, zeroAt, Called, called, storedAfter, calledFrom, calledAfter, callFromC}
 
 -- the top byte of eight is not 0

@@ -24,7 +24,7 @@ use Rattle.settings.specs.Reader.{isBlank, checksumDiffers, formUnknown, filler
 use Rattle.loader.specs.declared.Session.{Session}
 use Rattle.loader.specs.Records.{isRecord}
 use Rattle.loader.proofs.RecordLaws.{main-size-is-small, record-by-clauses}
-use Rattle.records.specs.Records.{sleepOf}
+use Rattle.rig.specs.Records.{sleepOf}
 use Rattle.claims.specs.Held.{Bytes, Held, HeldSession}
 use Rattle.claims.proofs.Settings.SettingsRule.{blank-held}
 

@@ -1,6 +1,6 @@
 -- 01, The loader and its edges: "From C the record is a byte area". Decoding what was encoded gives the session, and encoding what was
--- decoded gives the bytes (`encode-after-decode`, a law of `records`, which `rig` rests on).
--- `recordOf` is what `records` is proved to store, `sessionIn` and `isRecordArea` what it is proved to read.
+-- decoded gives the bytes (`encode-after-decode`, which `rig` needs itself and has among its own laws).
+-- `recordOf` is what `rig` is proved to store, `sessionIn` and `isRecordArea` what it is proved to read.
 use mathlib.Core.Path.{_≡_, refl, sym, ap, _∙_}
 use mathlib.Core.Bool.{true, false}
 use mathlib.Core.List.{List}
@@ -19,9 +19,9 @@ use Rattle.layout.specs.Layout.{form1, lengthOf, offsetOf, sumOf, tableEnd}
 use Rattle.fields.specs.Bodies.{bodiesOf}
 use Rattle.fields.specs.Fields as fields
 use Rattle.loader.specs.declared.Session.{Session}
-use Rattle.records.specs.Records.{recordSize, fieldsAt, fieldsSize, unusedAt, phaseCode, lockCode, sleepOf, recordOf, phaseIn, standingIn, sessionIn, phaseFits, isRecordArea}
+use Rattle.rig.specs.Records.{recordSize, fieldsAt, fieldsSize, unusedAt, phaseCode, lockCode, sleepOf, recordOf, phaseIn, standingIn, sessionIn, phaseFits, isRecordArea}
 use Rattle.rig.specs.Boundary.{zeroAt}
-use Rattle.records.proofs.RecordAgain.{encode-after-decode}
+use Rattle.rig.proofs.RecordAgain.{encode-after-decode}
 use Rattle.claims.specs.Held.{HeldSession}
 use Rattle.claims.proofs.Settings.FieldsRule.{read-after-made, fields-size, made-unused}
 

@@ -12,7 +12,7 @@ use Rattle.layout.specs.Layout.{form1, checksumAt, bodiesEnd, tableOf, pairsOf}
 use Rattle.fields.specs.Bodies.{valuesOf, numbersOf, bodiesOf}
 use Rattle.settings.specs.Image.{fillerOf, frontOf, imageOf}
 use Rattle.decisions.specs.Unlocking.{alertReset}
-use Rattle.records.specs.Records.{recordSize}
+use Rattle.rig.specs.Records.{recordSize}
 use Rattle.claims.specs.TwoBoards.{Sending}
 use Rattle.claims.specs.TwoBoardsFromC.{Lent, AlikeSessionsFromC}
 use Rattle.claims.specs.Trials.{chosen, writtenBoard, strictBoard}

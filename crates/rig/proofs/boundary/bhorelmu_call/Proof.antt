@@ -1,29 +1,45 @@
--- `rig::boundary::bhorelmu_call` meets its contract: the call of the session that is read, and what is stored of it.
-use mathlib.Core.Path.{ap}
+-- `rig::boundary::bhorelmu_call` meets its contract: the two refusals in their order, and then the call of the session.
+use mathlib.Core.Path.{_≡_, sym, ap, subst, _∙_}
 use native.Mathlib.Omega.{arith}
 use borrow.Author.Needs.{needs}
+use borrow.Author.Tests.{lt-ltb, le-ltb, not-true, not-false}
+use Rattle.octets.specs.Choice.{pick}
 use Rattle.act.specs.Memory.{memory}
-use Rattle.loader.proofs.CallLaws.{call-size-fits}
-use Rattle.rig.proofs.CallByRecord.{call-by-record}
+use Rattle.loader.specs.Answers.{Left}
+use Rattle.loader.specs.Calling.{standsThen}
+use Rattle.loader.proofs.CallLaws.{call-size-fits, call-keeps-settings}
+use Rattle.rig.specs.Boundary.{callFromC}
+use Rattle.rig.proofs.RecordAgain.{next-stored}
 use Rattle.rig.proofs.boundary.bhorelmu_call.Statement.{statement}
 use Rattle.rig.proofs.boundary.bhorelmu_call.Tie as tie
 
 pub bhorelmu-call-spec : {M : Type 1} → statement M
+unfolding callFromC pick
 bhorelmu-call-spec =
     tie.close
     (tie.spec
+    (λ c. rw (lt-ltb _ _ (c .if1 .taken)))
+    (λ c κs. search needs)
+    (λ c. search needs)
+    (λ c. rw (le-ltb _ _ (c .before .before .before .if1 .left), ← c .before .is-record-area .ensures, not-true (c .before .is-record-area .result) (c .if2 .taken)))
     (λ c κs. search needs)
     (λ c κs. search needs)
     (λ c κs.
     let served = c .before .before .before .before .before .before .before in
-    let a = served .before .before .before .before .before .before .before .before .before .before .before .args in
-    omega (arith, ap (λ left. left .answer .size) (served .call .ensures), call-size-fits (served .before .before .before .before .read-record .result) (memory (a .main .now) (a .settings .now)) (a .wait) (a .packet .now) (a .reply .now)))
+    let known = served .before .before .before .before .before .before in
+    let lent = known .before .before .before .before .before .before .before .before in
+    let a = lent .before .args in
+    let decoded = served .before .before .before .before .session-in in
+    let kept = call-keeps-settings (decoded .result) (memory (a .main .now) (a .settings .now)) (a .wait) (a .packet .now) (a .reply .now) in (
+      next-stored (a .area .now) (λ k. lent .slice-known .given k .fits) (sym (known .before .is-record-area .ensures) ∙ not-false (known .before .is-record-area .result) (known .if2 .left)) (decoded .result) (served .call .result .session) (decoded .ensures)
+          (subst (λ (left : Left). left .session ≡ standsThen (decoded .result) (left .session .standing)) (sym (served .call .ensures)) kept),
+      omega (arith, ap (λ left. left .answer .size) (served .call .ensures), call-size-fits (decoded .result) (memory (a .main .now) (a .settings .now)) (a .wait) (a .packet .now) (a .reply .now)),
+    ))
     (λ c. search needs)
     (λ c. search needs)
     (λ c. search needs)
     (λ c. search needs)
     (λ c.
     let served = c .before .before .before .before .before .before .before .before .before .before in
-    let lent = served .before .before .before .before .before .before .before .before .before .before in
-    let a = lent .before .args in
-    rw (call-by-record (a .area .now) (λ k. lent .slice-known .given k .fits) (memory (a .main .now) (a .settings .now)) (a .wait) (a .packet .now) (a .reply .now), ← served .before .before .before .before .read-record .ensures, ← served .call .ensures, ← c .before .before .store-called .ensures)))
+    let known = served .before .before .before .before .before .before in
+    rw (le-ltb _ _ (known .before .before .before .if1 .left), ← known .before .is-record-area .ensures, not-false (known .before .is-record-area .result) (known .if2 .left), ← served .before .before .before .before .session-in .ensures, ← served .call .ensures, ← c .before .before .store-called .ensures)))

@@ -12,10 +12,10 @@ store-called-spec =
     (tie.spec
     (λ c. search needs)
     (λ c κs. search needs)
-    (λ c κs. rw (c .before .before .before .before .before .before .answer .given .1) at (c .before .before .before .before .before .before .before .before .before .pre))
+    (λ c κs. rw (c .before .before .before .before .before .before .answer .given .1) at (c .before .before .before .before .before .before .before .before .before .pre .1))
     (λ c. search needs)
     (λ c. search needs)
     (λ c. search needs)
-    (λ c. rw (c .done .ensures, c .before .before .before .put-standing .ensures, c .before .before .before .before .before .before .before .answer .given .1))
+    (λ c. rw (c .done .ensures, c .before .before .before .put-standing .ensures, c .before .before .before .before .before .before .before .answer .given .1, c .before .before .before .before .before .before .before .before .before .before .pre .0))
     (λ c. rw (c .enum-told .given .1))
     (λ c. rw (c .enum-told2 .given .1)))
