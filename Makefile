@@ -30,14 +30,14 @@ vectors:
 	rt check vectors
 	cat target/log/vectors.stdout
 
-# The library for C: target/staticlib/librig.a, to be linked beside include/bhorelmu.h.
+# The library for C: target/staticlib/libbhorelmu.a, to be linked beside include/bhorelmu.h.
 lib:
 	. rig/toolchain.sh && build_library
 
 # The library, its header and its .pc file below PREFIX.
 install: lib
 	install -d $(DESTDIR)$(PREFIX)/lib/pkgconfig $(DESTDIR)$(PREFIX)/include
-	install -m 644 target/staticlib/librig.a $(DESTDIR)$(PREFIX)/lib/libbhorelmu.a
+	install -m 644 target/staticlib/libbhorelmu.a $(DESTDIR)$(PREFIX)/lib/libbhorelmu.a
 	install -m 644 include/bhorelmu.h $(DESTDIR)$(PREFIX)/include/bhorelmu.h
 	sed 's|@PREFIX@|$(PREFIX)|' include/bhorelmu.pc.in > $(DESTDIR)$(PREFIX)/lib/pkgconfig/bhorelmu.pc
 

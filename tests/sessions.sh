@@ -12,7 +12,7 @@ prints() { # WHAT FILE EXPECTED
     cmp "$work/printed" "$3" || complain "$1: not what is expected"
 }
 
-rt check runner >"$work/log" 2>&1 || {
+tools/is_current.sh target/bin/runner || rt check runner >"$work/log" 2>&1 || {
     cat "$work/log"
     exit 1
 }

@@ -17,9 +17,10 @@ use Rattle.regions.specs.declared.Region.{Region}
 use Rattle.regions.specs.declared.Region.the-variants.{Main, Settings, Outside}
 use Rattle.regions.specs.declared.Place.{Place}
 use Rattle.regions.specs.Regions.{mspm0Part, placeOf}
+use Rattle.regions.specs.Memory.{Memory}
 use Rattle.sectors.proofs.ErasingLaws.{erase-keeps-length, erase-all-keeps-length}
 use Rattle.flash.proofs.ProgrammingLaws.{program-keeps-length}
-use Rattle.act.specs.Memory.{Memory, Acted, Board}
+use Rattle.act.specs.Memory.{Acted, Board}
 use Rattle.act.specs.Erasing.{rangeErase, rangeEraseIn, allErased, resetAnswer, factoryReset}
 use Rattle.act.specs.Programming.{isOutside, isAligned, programmed, programAt}
 use Rattle.act.specs.Acting.{performed, actOf}

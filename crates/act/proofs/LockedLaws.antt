@@ -1,7 +1,7 @@
 -- What is done and answered where no protected command is performed: all that a locked board can do.
 use mathlib.Core.Path.{_≡_, refl, sym, ap, ap₂, _∙_}
 use mathlib.Core.Bool.{Bool, true, false, true≢false}
-use mathlib.Core.List.{List, []}
+use mathlib.Core.List.{List}
 use Prim.Native.Nat.{ℕ, _+_, _%_, _≤_}
 use native.Mathlib.Omega.{arith}
 use borrow.Author.Tests.{eqb-true, leb-true}
@@ -12,16 +12,17 @@ use Rattle.octets.specs.Number.{numberOf, numberAt}
 use Rattle.octets.proofs.Searching.{pick-true, pick-false, by-test}
 use Rattle.replies.specs.declared.Reply.the-variants.{Info}
 use Rattle.values.specs.declared.Shown.{Shown}
+use Rattle.regions.specs.Memory.{Memory}
 use Rattle.sectors.specs.Protection.{mayChange}
 use Rattle.sectors.specs.Erasing.{eraseAllOf}
 use Rattle.sectors.proofs.ErasingLaws.{erase-all-keeps-length, erase-all-in-one-sector}
 use Rattle.decisions.specs.declared.Effect.{Effect}
 use Rattle.decisions.specs.declared.Effect.the-variants.{Say, TellInfo, Strike, Perform}
 use Rattle.decisions.proofs.EffectTests.{isPerformed}
-use Rattle.act.specs.Memory.{Memory, Board, sectorSize}
+use Rattle.act.specs.Memory.{Board, sectorSize}
 use Rattle.act.specs.Erasing.{allErased}
 use Rattle.act.specs.Showing.{versionSize, versionAt}
-use Rattle.act.specs.Acting.{actOf, bytesAsked}
+use Rattle.act.specs.Acting.{actOf}
 
 -- ---- memory
 
@@ -35,13 +36,6 @@ module _ (board : Board) (right : Bool) (packet : List ℕ) (before : Memory) wh
   only-strikes-change P (Perform task) h struck kept = absurd (true≢false h)
 
 -- ---- what is told
-
--- no bytes of memory stand beside the reply
-pub no-bytes-asked : (mainSize : ℕ) (memory : Memory) (effect : Effect) → isPerformed effect ≡ false → bytesAsked mainSize memory effect ≡ []
-no-bytes-asked mainSize memory (Say reply) h = refl
-no-bytes-asked mainSize memory TellInfo h = refl
-no-bytes-asked mainSize memory Strike h = refl
-no-bytes-asked mainSize memory (Perform task) h = absurd (true≢false h)
 
 -- the reply tells the version and what may be shown of the settings, and nothing else
 module _ (oneBoard otherBoard : Board) (oneRight otherRight : Bool) (packet : List ℕ) (one other : Memory) where

@@ -9,7 +9,8 @@ use Rattle.wire.specs.Codes as codes
 use Rattle.regions.proofs.Region.{the-type}
 use Rattle.regions.specs.declared.Region.{Region}
 use Rattle.regions.specs.declared.Region.the-variants.{Main, Settings, Outside}
-use Rattle.act.specs.Memory.{Memory, tells, Board}
+use Rattle.regions.specs.Memory.{Memory}
+use Rattle.act.specs.Memory.{tells, Board}
 use Rattle.act.specs.Erasing.{rangeEraseIn}
 use Rattle.act.specs.Programming.{isOutside}
 

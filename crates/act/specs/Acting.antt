@@ -1,18 +1,18 @@
 -- 01, Commands (004): what each does to memory and what is answered, once a packet is judged.
 use Prim.Native.Nat.{ℕ}
 use mathlib.Core.Bool.{Bool}
-use mathlib.Core.List.{List, []}
+use mathlib.Core.List.{List}
 use Rattle.wire.specs.Codes as codes
 use Rattle.wire.specs.Packet.{dataIn}
 use Rattle.wire.specs.declared.Guarded.{Guarded}
 use Rattle.wire.specs.declared.Guarded.the-variants as guarded
 use Rattle.decisions.specs.declared.Effect.{Effect}
 use Rattle.decisions.specs.declared.Effect.the-variants.{Say, TellInfo, Strike, Perform}
-use Rattle.regions.specs.Regions.{mspm0Part, placeOf}
-use Rattle.act.specs.Memory.{Memory, Acted, acted, tells, Board}
+use Rattle.regions.specs.Memory.{Memory}
+use Rattle.act.specs.Memory.{Acted, acted, tells, Board}
 use Rattle.act.specs.Erasing.{rangeErase, massErase, factoryReset, struck}
 use Rattle.act.specs.Programming.{program}
-use Rattle.act.specs.Showing.{infoReply, bytesAt, readBack, verify}
+use Rattle.act.specs.Showing.{infoReply, readBack, verify}
 
 -- a protected command of an unlocked session; "wrong L 06; then each one's own checks"
 abbrev pub performed : Board → Bool → List ℕ → Memory → Guarded → Acted
@@ -30,19 +30,3 @@ actOf board right packet before (Say reply) = acted reply before
 actOf board right packet before TellInfo = acted (infoReply (board .shown) (before .main)) before
 actOf board right packet before Strike = struck board before
 actOf board right packet before (Perform task) = performed board right packet before task
-
--- Read back: "30 and the bytes"; no other command has any
-abbrev pub bytesOfTask : ℕ → Memory → Guarded → List ℕ
-bytesOfTask mainSize memory (guarded.RangeErase start end) = []
-bytesOfTask mainSize memory guarded.MassErase = []
-bytesOfTask mainSize memory (guarded.Program address size silent) = []
-bytesOfTask mainSize memory (guarded.ReadBack address size) = bytesAt (placeOf mspm0Part mainSize address size) size memory
-bytesOfTask mainSize memory (guarded.Verify address size) = []
-bytesOfTask mainSize memory (guarded.FactoryReset with) = []
-bytesOfTask mainSize memory guarded.WrongLength = []
-
-abbrev pub bytesAsked : ℕ → Memory → Effect → List ℕ
-bytesAsked mainSize memory (Say reply) = []
-bytesAsked mainSize memory TellInfo = []
-bytesAsked mainSize memory Strike = []
-bytesAsked mainSize memory (Perform task) = bytesOfTask mainSize memory task

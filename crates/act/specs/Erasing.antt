@@ -7,8 +7,9 @@ use Rattle.wire.specs.Codes as codes
 use Rattle.regions.specs.declared.Region.{Region}
 use Rattle.regions.specs.declared.Region.the-variants.{Main, Settings, Outside}
 use Rattle.regions.specs.Regions.{mspm0Part, placeOf}
+use Rattle.regions.specs.Memory.{Memory, memory}
 use Rattle.sectors.specs.Erasing.{eraseOf, eraseAllOf}
-use Rattle.act.specs.Memory.{Memory, memory, Acted, tells, Board, sectorSize, settingsProtection}
+use Rattle.act.specs.Memory.{Acted, tells, Board, sectorSize, settingsProtection}
 
 -- "Every sector from start's to end's becomes 0xFF; 00."
 abbrev pub rangeErased : Board → ℕ → ℕ → Memory → Acted

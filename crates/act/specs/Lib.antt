@@ -1,5 +1,5 @@
 -- What a packet that was judged does to memory, and what is answered, in reading order; each definition names its sentence of document 01.
--- Memory: the two images, what is left of them, and the numbers of the part.
+-- Memory: what is left of memory, what the settings let be done to it, and the numbers of the part.
 pub mod Memory
 -- Erasing: Range erase, Mass erase, Factory reset, and the alert's reset.
 pub mod Erasing
@@ -9,5 +9,3 @@ pub mod Programming
 pub mod Showing
 -- Acting: all of them, by what was decided.
 pub mod Acting
--- Answering: what is sent of it.
-pub mod Answering

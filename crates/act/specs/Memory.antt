@@ -1,16 +1,10 @@
--- The two flash images, what an act leaves of them, and the numbers of the part.
+-- What an act leaves of memory, what the settings let be done to it, and the numbers of the part.
 use Prim.Native.Nat.{ℕ}
 use mathlib.Core.List.{List, [], _∷_}
 use Rattle.replies.specs.declared.Reply.{Reply}
 use Rattle.replies.specs.declared.Reply.the-variants.{Message}
 use Rattle.values.specs.declared.Shown.{Shown}
-
-pub record Memory : Type 0 where
-  pub main : List ℕ
-  pub settings : List ℕ
-
-abbrev pub memory : List ℕ → List ℕ → Memory
-memory main settings = record { main = main; settings = settings }
+use Rattle.regions.specs.Memory.{Memory}
 
 -- what is answered, and what is left
 pub record Acted : Type 0 where

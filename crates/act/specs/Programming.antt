@@ -9,8 +9,9 @@ use Rattle.regions.specs.declared.Region.{Region}
 use Rattle.regions.specs.declared.Region.the-variants.{Main, Settings, Outside}
 use Rattle.regions.specs.declared.Place.{Place}
 use Rattle.regions.specs.Regions.{mspm0Part, placeOf}
+use Rattle.regions.specs.Memory.{Memory, memory}
 use Rattle.flash.specs.Programming.{programOf}
-use Rattle.act.specs.Memory.{Memory, memory, Acted, tells, Board, sectorSize, settingsProtection}
+use Rattle.act.specs.Memory.{Acted, tells, Board, sectorSize, settingsProtection}
 
 -- "a multiple of 8"
 abbrev pub wordSize : ℕ

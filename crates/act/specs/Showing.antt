@@ -1,20 +1,21 @@
 -- 01, Commands: 0x19 Info, 0x29 Read back, 0x26 Verify. None of them changes memory.
 use Prim.Native.Nat.{ℕ, _+_, _%_}
-use mathlib.Core.List.{List, []}
+use mathlib.Core.List.{List}
 use lib.Dec.{ltb, leb, eqb}
 use lib.ListN.{length}
 use Rattle.octets.specs.Choice.{pick}
-use Rattle.octets.specs.Number.{part, numberAt}
+use Rattle.octets.specs.Number.{numberAt}
 use Rattle.checksum.specs.Checksum.{checksumOf}
 use Rattle.wire.specs.Codes as codes
 use Rattle.replies.specs.declared.Reply.{Reply}
 use Rattle.replies.specs.declared.Reply.the-variants.{Message, Info, Bytes, Sum}
+use Rattle.replies.specs.Replies.{readBackMost}
 use Rattle.values.specs.declared.Shown.{Shown}
 use Rattle.regions.specs.declared.Region.{Region}
-use Rattle.regions.specs.declared.Region.the-variants.{Main, Settings, Outside}
 use Rattle.regions.specs.declared.Place.{Place}
 use Rattle.regions.specs.Regions.{mspm0Part, placeOf}
-use Rattle.act.specs.Memory.{Memory, Board}
+use Rattle.regions.specs.Memory.{Memory, bytesAt}
+use Rattle.act.specs.Memory.{Board}
 use Rattle.act.specs.Programming.{isOutside}
 
 -- "version (4)"
@@ -30,22 +31,9 @@ versionAt pointer main =
 abbrev pub infoReply : Shown → List ℕ → Reply
 infoReply shown main = Info (versionAt (shown .«version_pointer») main) (shown .«bcr_id») (shown .«bsl_id»)
 
--- so many bytes of a region, from a place on
-abbrev pub bytesIn : ℕ → ℕ → Memory → Region → List ℕ
-bytesIn offset size memory Main = part offset size (memory .main)
-bytesIn offset size memory Settings = part offset size (memory .settings)
-bytesIn offset size memory Outside = []
-
--- the bytes of a range of addresses; none where no region holds it wholly
-abbrev pub bytesAt : Place → ℕ → Memory → List ℕ
-bytesAt place size memory = bytesIn (place .offset) size memory (place .region)
-
 -- 01, Settings image, kind 3: "readout (two bytes, on only at 0xAABB)"
 abbrev pub readoutOn : ℕ
 readoutOn = 0xAABB
-
-abbrev pub readBackMost : ℕ
-readBackMost = 1720
 
 -- "0x29 Read back, protected, L 9: readout off 09; size 0, above 1,720 or not in one region 05; else 30 and the bytes."
 unfoldable pub readBackIn : ℕ → ℕ → Region → Reply

@@ -1,6 +1,7 @@
 // What was decided is done.
 ghost use mathlib.Core.Path.{_≡_};
-ghost use Rattle.act.specs.Memory.{memory, acted, board};
+ghost use Rattle.regions.specs.Memory.{memory};
+ghost use Rattle.act.specs.Memory.{acted, board};
 ghost use Rattle.act.specs.Acting.{performed, actOf};
 use crate::erasing;
 use crate::memory::SECTOR_SIZE;

@@ -1,8 +1,8 @@
 // Info, Read back and Verify: none of them changes memory.
 ghost use mathlib.Core.Path.{_≡_};
 ghost use Rattle.regions.specs.Regions.{mspm0Part, placeOf};
-ghost use Rattle.act.specs.Memory.{memory};
-ghost use Rattle.act.specs.Showing.{versionAt, infoReply, bytesIn, readBackIn, verifyAt};
+ghost use Rattle.regions.specs.Memory.{memory};
+ghost use Rattle.act.specs.Showing.{versionAt, infoReply, readBackIn, verifyAt};
 use crate::memory;
 use regions::Region;
 use replies::Reply;
@@ -63,23 +63,6 @@ pub(crate) fn read_back(readout: u16, main_size: u32, address: u32, size: u32) -
     Reply::Bytes
 }
 
-// So many bytes of a region, from a place on; none outside.
-pub(crate) fn bytes_in<'a>(
-    region: Region,
-    offset: usize,
-    size: usize,
-    main: &'a [u8],
-    image: &'a [u8],
-) -> &'a [u8]
-    ensures { λ r. ⌜ now r ≡ bytesIn offset size (memory (now (main .entry)) (now (image .entry))) region ⌝ }
-{
-    match region {
-        Region::Main => octets::part_of(main, offset, size),
-        Region::Settings => octets::part_of(image, offset, size),
-        Region::Outside => octets::part_of(main, 0, 0),
-    }
-}
-
 // The checksum of a range that one region holds wholly.
 pub(crate) fn verify<'a>(
     main_size: u32,
@@ -101,5 +84,6 @@ pub(crate) fn verify<'a>(
     if let Region::Outside = region {
         return Reply::Message(codes::INVALID_RANGE);
     }
-    Reply::Sum(checksum::checksum_of(bytes_in(region, place.offset, size as usize, main, image)))
+    let bytes = regions::bytes_in(region, place.offset, size as usize, main, image);
+    Reply::Sum(checksum::checksum_of(bytes))
 }

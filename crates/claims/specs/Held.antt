@@ -5,7 +5,7 @@ use mathlib.Core.List.{List}
 use lib.ListN.{length, getD}
 use Rattle.values.specs.declared.Shown.{Shown}
 use Rattle.values.specs.declared.Settings.{Settings}
-use Rattle.loader.specs.declared.Session.{Session}
+use Rattle.sessions.specs.declared.Session.{Session}
 use Rattle.rig.specs.Records.{sleepOf}
 
 -- bytes: so many numbers below 256

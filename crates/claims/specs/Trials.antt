@@ -9,8 +9,8 @@ use Rattle.wire.specs.Codes.{commandHeader, replyLimit, connect, unlock}
 use Rattle.values.specs.declared.Settings.{Settings}
 use Rattle.layout.specs.Layout.{form1, imageSize}
 use Rattle.settings.specs.Image.{imageOf}
+use Rattle.regions.specs.Memory.{memory}
 use Rattle.decisions.specs.Unlocking.{alertReset}
-use Rattle.act.specs.Memory.{memory}
 use Rattle.loader.specs.Answers.{Left}
 use Rattle.claims.specs.TwoBoards.{Images, Running, settingsOf, started, Sending, WithoutPassword, called, next}
 

@@ -1,5 +1,5 @@
 -- Demand 3, sentence by sentence: two boards, a person without a password, one session.
--- `startOf` and `callOf` are what `loader::start` and `loader::call` are proved to do.
+-- `startOf` and `callOf` are what `sessions::start` and `loader::call` are proved to do.
 use Prim.Native.Nat.{ℕ, _≤_, _<_}
 use mathlib.Core.Path.{_≡_}
 use mathlib.Core.Bool.{Bool, false}
@@ -15,13 +15,14 @@ use Rattle.standing.specs.Phases.{mostWrong, isUnlocked}
 use Rattle.values.specs.declared.Settings.{Settings}
 use Rattle.layout.specs.Layout.{form1}
 use Rattle.settings.specs.Reader.{readOf}
+use Rattle.regions.specs.Memory.{Memory}
 use Rattle.sectors.specs.Protection.{mayChange}
 use Rattle.decisions.specs.Unlocking.{alertReset}
-use Rattle.act.specs.Memory.{Memory, sectorSize, settingsProtection}
+use Rattle.act.specs.Memory.{sectorSize, settingsProtection}
 use Rattle.act.specs.Showing.{versionAt}
-use Rattle.loader.specs.declared.Session.{Session}
+use Rattle.sessions.specs.declared.Session.{Session}
 use Rattle.loader.specs.Answers.{Left}
-use Rattle.loader.specs.Starting.{startOf}
+use Rattle.sessions.specs.Starting.{startOf}
 use Rattle.loader.specs.Calling.{callOf}
 
 -- ---- the boards

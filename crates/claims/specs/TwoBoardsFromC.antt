@@ -8,10 +8,13 @@ use lib.Dec.{eqb}
 use lib.ListN.{length, getD, take}
 use Rattle.octets.specs.Choice.{pick}
 use Rattle.standing.specs.Phases.{mostWrong}
+use Rattle.regions.specs.Memory.{Memory}
 use Rattle.decisions.specs.Unlocking.{alertReset}
-use Rattle.act.specs.Memory.{Memory, settingsProtection}
+use Rattle.act.specs.Memory.{settingsProtection}
+use Rattle.numbers.specs.OneNumber.{refusalUnit, burnUnit}
+use Rattle.numbers.specs.Stored.{Stored}
 use Rattle.rig.specs.Records.{recordSize, fieldsAt}
-use Rattle.rig.specs.Boundary.{refusalUnit, burnUnit, Stored, startFromC, Called, callFromC}
+use Rattle.rig.specs.Boundary.{startFromC, Called, callFromC}
 use Rattle.claims.specs.TwoBoards.{Images, settingsOf, Sending, WithoutPassword, AsClaimed}
 
 -- ---- the boards

@@ -23,9 +23,9 @@ use denote.Slice.{sliceVal}
 use denote.Steps.{opens, closes, owned, peeks}
 use denote.Struct.Steps.{spelt}
 use denote.Struct.Laws as LL
-use Rattle.loader.specs.declared.Session.{Session}
-use Rattle.loader.proofs.Session as S
-use Rattle.loader.proofs.Session.Laws as S′
+use Rattle.sessions.specs.declared.Session.{Session}
+use Rattle.sessions.proofs.Session as S
+use Rattle.sessions.proofs.Session.Laws as S′
 
 -- what the machine holds of a session, and of a slice
 abbrev pub sessionVal : Session → Val

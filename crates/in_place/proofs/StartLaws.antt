@@ -5,10 +5,10 @@ use mathlib.Core.List.{[], _∷_}
 use lib.Dec.{eqb}
 use denote.Enum.Declared.{tagOf}
 use types.Run.{OneOf, miss}
-use Rattle.loader.specs.declared.StartAnswer.{StartAnswer}
-use Rattle.loader.specs.declared.StartAnswer.the-variants as start
-use Rattle.loader.specs.Answers.{startNumbered}
-use Rattle.loader.proofs.StartAnswer.{the-type}
+use Rattle.sessions.specs.declared.StartAnswer.{StartAnswer}
+use Rattle.sessions.specs.declared.StartAnswer.the-variants as start
+use Rattle.sessions.specs.Answers.{startNumbered}
+use Rattle.sessions.proofs.StartAnswer.{the-type}
 
 -- an answer that is none but the first refuses
 pub not-started : (answer : StartAnswer) → OneOf (1 ∷ 2 ∷ 3 ∷ 4 ∷ 5 ∷ 6 ∷ 7 ∷ 8 ∷ []) (tagOf the-type answer)

@@ -5,9 +5,9 @@ use mathlib.Core.List.{List}
 use lib.Dec.{eqb}
 use Rattle.octets.specs.Choice.{pick}
 use Rattle.settings.specs.Answer.{Numbered}
-use Rattle.loader.specs.declared.Session.{Session}
-use Rattle.loader.specs.Answers.{StartTold}
-use Rattle.loader.specs.Starting.{startOf}
+use Rattle.sessions.specs.declared.Session.{Session}
+use Rattle.sessions.specs.Answers.{StartTold}
+use Rattle.sessions.specs.Starting.{startOf}
 
 -- all that start leaves: its answer, and the record
 abbrev pub startLeft : Numbered → Session → StartTold

@@ -1,10 +1,10 @@
 // One call of a session, whose record is lent.
 ghost use mathlib.Core.Path.{_≡_};
-ghost use Rattle.act.specs.Memory.{memory};
+ghost use Rattle.regions.specs.Memory.{memory};
 ghost use Rattle.loader.specs.Answers.{callNumbered, left};
 ghost use Rattle.loader.specs.Calling.{callOf};
 use loader::CallAnswer;
-use loader::Session;
+use sessions::Session;
 
 // The loader's call; the record becomes the session for the next call. A refused call leaves it as it was.
 pub fn call(

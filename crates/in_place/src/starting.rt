@@ -1,16 +1,16 @@
 // Starting a session, into a record that is lent.
 ghost use mathlib.Core.Path.{_≡_};
-ghost use Rattle.loader.specs.Answers.{startNumbered, startTold};
+ghost use Rattle.sessions.specs.Answers.{startNumbered, startTold};
 ghost use Rattle.in_place.specs.Starting.{startLeft, startInPlace};
-use loader::Session;
-use loader::StartAnswer;
-use loader::Started;
+use sessions::Session;
+use sessions::StartAnswer;
+use sessions::Started;
 
 // The session that was started, or beside a refusal the one that was given.
 fn start_or_keep(session: Session, fuse: bool, main: &[u8], image: &[u8]) -> Started
     ensures { λ r. ⌜ startTold r ≡ startInPlace session fuse (now (main .entry)) (now (image .entry)) ⌝ }
 {
-    let started = loader::start(fuse, main, image);
+    let started = sessions::start(fuse, main, image);
     let answer = started.answer;
     if let StartAnswer::Started = answer {
         return started;

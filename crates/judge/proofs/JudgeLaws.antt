@@ -11,11 +11,11 @@ use Rattle.octets.proofs.Searching.{pick-true, by-test}
 use Rattle.standing.specs.declared.Phase.{Phase}
 use Rattle.standing.specs.declared.Phase.the-variants.{Detect, Command, Standby, Ended, Disabled}
 use Rattle.standing.specs.declared.Standing.{Standing}
-use Rattle.standing.specs.declared.Passed.{Passed}
+use Rattle.waits.specs.declared.Passed.{Passed}
 use Rattle.standing.specs.Phases.{mostWrong, isUnlocked, isValid}
-use Rattle.standing.specs.Waits.{movedTo, dropped, passTimeIn, passTime}
+use Rattle.waits.specs.Waits.{movedTo, dropped, passTimeIn, passTime}
 use Rattle.standing.proofs.PhaseLaws.{Valid, valid-by-parts, parts-make-valid}
-use Rattle.standing.proofs.WaitLaws.{time-keeps-valid, time-keeps-wrong-count-and-rate, time-never-unlocks, long-wait-is-heard}
+use Rattle.waits.proofs.WaitLaws.{time-keeps-valid, time-keeps-wrong-count-and-rate, time-never-unlocks, long-wait-is-heard}
 use Rattle.decisions.specs.declared.Effect.the-variants.{Strike}
 use Rattle.decisions.specs.declared.Judged.{Judged}
 use Rattle.decisions.specs.Unlocking.{asleep, alertReset, alertDisable}

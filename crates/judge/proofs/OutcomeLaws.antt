@@ -22,7 +22,7 @@ use Rattle.standing.specs.declared.Phase.{Phase}
 use Rattle.standing.specs.declared.Phase.the-variants as phase
 use Rattle.standing.specs.declared.Standing.{Standing}
 use Rattle.standing.specs.Phases.{mostWrong, isUnlocked}
-use Rattle.standing.specs.Waits.{movedTo, passTime}
+use Rattle.waits.specs.Waits.{movedTo, passTime}
 use Rattle.decisions.specs.declared.Effect.the-variants.{Say, TellInfo, Strike, Perform}
 use Rattle.decisions.specs.declared.Judged.{Judged}
 use Rattle.decisions.specs.Judgement.{judged, says}

@@ -18,9 +18,9 @@ use Rattle.standing.specs.declared.Phase.{Phase}
 use Rattle.standing.specs.declared.Phase.the-variants as phase
 use Rattle.standing.specs.declared.Standing.{Standing}
 use Rattle.standing.specs.Phases.{mostWrong, isValid}
-use Rattle.standing.specs.Waits.{passTime}
+use Rattle.waits.specs.Waits.{passTime}
 use Rattle.standing.proofs.PhaseLaws.{valid-by-parts}
-use Rattle.standing.proofs.WaitLaws.{time-keeps-wrong-count-and-rate}
+use Rattle.waits.proofs.WaitLaws.{time-keeps-wrong-count-and-rate}
 use Rattle.decisions.specs.declared.Judged.{Judged}
 use Rattle.decisions.specs.declared.Effect.the-variants.{Strike}
 use Rattle.decisions.specs.Unlocking.{countedUp, alertReset, tried}

@@ -14,8 +14,8 @@ use Rattle.replies.specs.declared.Reply.the-variants.{Silence, Acknowledged}
 use Rattle.standing.specs.declared.Phase.{Phase}
 use Rattle.standing.specs.declared.Phase.the-variants as phase
 use Rattle.standing.specs.declared.Standing.{Standing}
-use Rattle.standing.specs.declared.Passed.{Passed}
-use Rattle.standing.specs.Waits.{movedTo, passTime}
+use Rattle.waits.specs.declared.Passed.{Passed}
+use Rattle.waits.specs.Waits.{movedTo, passTime}
 use Rattle.decisions.specs.declared.Judged.{Judged}
 use Rattle.decisions.specs.Judgement.{says}
 use Rattle.judge.specs.Obeying.{obeyed}

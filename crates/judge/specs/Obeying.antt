@@ -9,7 +9,7 @@ use Rattle.wire.specs.declared.Command.the-variants as command
 use Rattle.replies.specs.declared.Reply.the-variants.{Acknowledged, Message}
 use Rattle.standing.specs.declared.Phase.the-variants.{Ended}
 use Rattle.standing.specs.declared.Standing.{Standing}
-use Rattle.standing.specs.Waits.{movedTo}
+use Rattle.waits.specs.Waits.{movedTo}
 use Rattle.decisions.specs.declared.Effect.the-variants.{TellInfo, Perform}
 use Rattle.decisions.specs.declared.Judged.{Judged}
 use Rattle.decisions.specs.Judgement.{judged, says}

@@ -3,7 +3,7 @@ ghost use mathlib.Core.Path.{_≡_};
 ghost use mathlib.Core.Bool.{false};
 ghost use Rattle.wire.specs.Commands.{isKnown};
 ghost use Rattle.standing.specs.declared.Phase.the-variants as phase;
-ghost use Rattle.standing.specs.Waits.{movedTo};
+ghost use Rattle.waits.specs.Waits.{movedTo};
 ghost use Rattle.judge.specs.Hearing.{silently, heardInDetect, stirred, heardInCommand, judgedOf};
 use crate::judgement;
 use crate::obeying;
@@ -106,7 +106,7 @@ fn heard_in_command(
 pub fn judge(standing: Standing, alert: u8, wait: u32, packet: &[u8], right: bool) -> Judged
     ensures { λ r. ⌜ r ≡ judgedOf standing alert wait (now (packet .entry)) right ⌝ }
 {
-    let passed = standing::pass_time(standing, wait);
+    let passed = waits::pass_time(standing, wait);
     let after = passed.standing;
     if !passed.heard {
         return silently(after);

@@ -1,7 +1,7 @@
 // A command of the command phase, whose packet was acknowledged by 0x00.
 ghost use mathlib.Core.Path.{_≡_};
 ghost use Rattle.standing.specs.declared.Phase.the-variants.{Ended};
-ghost use Rattle.standing.specs.Waits.{movedTo};
+ghost use Rattle.waits.specs.Waits.{movedTo};
 ghost use Rattle.judge.specs.Obeying.{withRate, obeyed};
 use crate::judgement;
 use decisions::Effect;

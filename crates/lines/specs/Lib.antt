@@ -1,5 +1,5 @@
--- What the session runner prints, in reading order; each definition names its sentence of document 01.
+-- The line that the session runner prints for an entry, in reading order; each definition names its sentence of document 01.
 -- Digits: numbers as digits.
 pub mod Digits
--- Writing: the lines, and what writing one leaves.
+-- Writing: the line, and what writing one leaves.
 pub mod Writing

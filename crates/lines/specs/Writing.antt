@@ -1,14 +1,10 @@
--- 01, Marked cases and the rest: "prints a line an entry: number from 1, a space, the reply in hex, or "-"; then "end", phase and,
--- in command, lock."
+-- 01, Marked cases and the rest: "prints a line an entry: number from 1, a space, the reply in hex, or "-""
 use Prim.Native.Nat.{ℕ, _*_}
-use mathlib.Core.Bool.{Bool, true, false}
 use mathlib.Core.List.{List, _++_}
 use lib.Dec.{ltb, eqb}
 use lib.ListN.{length}
 use lib.Seq.{sets}
 use Rattle.octets.specs.Choice.{pick}
-use Rattle.standing.specs.declared.Phase.{Phase}
-use Rattle.standing.specs.declared.Phase.the-variants.{Detect, Command, Standby, Ended, Disabled}
 use Rattle.hex.specs.Hex.{hexOf}
 use Rattle.lines.specs.Digits.{text, decimalOf}
 
@@ -18,22 +14,6 @@ replyText reply = pick (eqb (length reply) 0) (text " -") (hexOf reply)
 
 unfoldable pub lineOf : ℕ → List ℕ → List ℕ
 lineOf number reply = decimalOf number ++ (replyText reply ++ text "\n")
-
--- 01, Phases and waits: "detect, command (locked or unlocked, with sleep left), standby, ended or disabled"
-abbrev pub lockText : Bool → List ℕ
-lockText true = text "unlocked"
-lockText false = text "locked"
-
-abbrev pub phaseText : Phase → List ℕ
-phaseText Detect = text "detect"
-phaseText (Command unlocked sleep) = text "command " ++ lockText unlocked
-phaseText Standby = text "standby"
-phaseText Ended = text "ended"
-phaseText Disabled = text "disabled"
-
--- "then "end", phase and, in command, lock"
-abbrev pub endOf : Phase → List ℕ
-endOf phase = text "end " ++ (phaseText phase ++ text "\n")
 
 -- all that writing a line leaves: how many bytes it has, and the area
 pub record Written : Type 0 where

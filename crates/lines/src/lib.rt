@@ -1,6 +1,5 @@
-// What the session runner prints: a line for each entry, and the end line.
+// The line that the session runner prints for an entry.
 mod digits;
 mod writing;
 
-pub use writing::write_end;
 pub use writing::write_line;

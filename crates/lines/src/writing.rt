@@ -4,9 +4,8 @@ ghost use Prim.Native.Nat.{_+_, _≤_};
 ghost use lib.Dec.{ltb};
 ghost use lib.ListN.{length};
 ghost use lib.Seq.{sets};
-ghost use Rattle.lines.specs.Writing.{replyText, textSize, lineOf, endOf, written, writtenOf};
+ghost use Rattle.lines.specs.Writing.{replyText, textSize, lineOf, written, writtenOf};
 use crate::digits;
-use standing::Phase;
 
 // A reply as text: a dash where it has no bytes. Answers the place after it.
 fn put_reply(area: &mut [u8], at: usize, reply: &[u8]) -> usize
@@ -45,36 +44,4 @@ pub fn write_line(number: u8, reply: &[u8], area: &mut [u8]) -> usize
     let end = put_reply(area, count, reply);
     stores::put(area, end, b"\n");
     end + 1
-}
-
-fn write_text(text: &[u8], area: &mut [u8]) -> usize
-    ensures { λ r. ⌜ written r (now (area .exit)) ≡ writtenOf (now (text .entry)) (now (area .entry)) ⌝ }
-{
-    if area.len() < text.len() {
-        return 0;
-    }
-    stores::put(area, 0, text);
-    text.len()
-}
-
-fn write_command_end(unlocked: bool, area: &mut [u8]) -> usize
-    ensures { λ r. ⌜ written r (now (area .exit)) ≡ writtenOf (endOf (Phase.Command unlocked 0)) (now (area .entry)) ⌝ }
-{
-    if unlocked {
-        return write_text(b"end command unlocked\n", area);
-    }
-    write_text(b"end command locked\n", area)
-}
-
-// Writes the end line, which says how the session stands at last, as the line of an entry is written.
-pub fn write_end(phase: Phase, area: &mut [u8]) -> usize
-    ensures { λ r. ⌜ written r (now (area .exit)) ≡ writtenOf (endOf phase) (now (area .entry)) ⌝ }
-{
-    match phase {
-        Phase::Detect => write_text(b"end detect\n", area),
-        Phase::Command { unlocked, sleep: _ } => write_command_end(unlocked, area),
-        Phase::Standby => write_text(b"end standby\n", area),
-        Phase::Ended => write_text(b"end ended\n", area),
-        Phase::Disabled => write_text(b"end disabled\n", area),
-    }
 }

@@ -8,9 +8,9 @@ use lib.Dec.{ltb}
 use lib.ListN.{length}
 use Rattle.octets.proofs.Searching.{by-pick}
 use Rattle.wire.specs.Codes.{replyLimit}
-use Rattle.act.specs.Memory.{Memory}
-use Rattle.act.proofs.AnsweringLaws.{answer-fits}
-use Rattle.loader.specs.declared.Session.{Session}
+use Rattle.regions.specs.Memory.{Memory}
+use Rattle.sending.proofs.AnsweringLaws.{answer-fits}
+use Rattle.sessions.specs.declared.Session.{Session}
 use Rattle.loader.specs.Records.{isRecord}
 use Rattle.loader.specs.Answers.{Left}
 use Rattle.loader.specs.Calling.{standsThen, judgement, callRefused, serveOf, callOf}

@@ -1,19 +1,15 @@
 -- What a valid record is, clause by clause.
 use mathlib.Core.Path.{_≡_, _∙_}
 use mathlib.Core.Bool.{true}
-use Prim.Native.Nat.{ℕ, _≤_}
-use borrow.Author.Tests.{leb-true, eq-eqb, eqb-true}
+use Prim.Native.Nat.{ℕ}
+use borrow.Author.Tests.{eq-eqb, eqb-true}
 use Rattle.octets.proofs.Searching.{pick-true, pick-both}
 use Rattle.standing.specs.Phases.{isValid}
 use Rattle.values.specs.Values.{isAllowed}
 use Rattle.layout.specs.Layout.{imageSize}
-use Rattle.loader.specs.declared.Session.{Session}
-use Rattle.loader.specs.Records.{isMainSize, isRecord}
-
--- a size of MAIN needs no more than 17 bits
-pub main-size-is-small : (size : ℕ) → isMainSize size ≡ true → size ≤ 65536
-unfolding isMainSize
-main-size-is-small size h = leb-true size 65536 (pick-both _ _ (pick-both _ _ h .1) .0)
+use Rattle.regions.specs.Regions.{isMainSize}
+use Rattle.sessions.specs.declared.Session.{Session}
+use Rattle.loader.specs.Records.{isRecord}
 
 -- the clauses of 10, each by itself
 pub record Valid (session : Session) (mainLent settingsLent : ℕ) : Type 0 where

@@ -2,35 +2,11 @@
 use Prim.Native.Nat.{ℕ}
 use mathlib.Core.Bool.{Bool, false}
 use mathlib.Core.List.{List}
-use Rattle.settings.specs.Answer.{Numbered, numbered}
-use Rattle.act.specs.Memory.{Memory}
-use Rattle.loader.specs.declared.Session.{Session}
-use Rattle.loader.specs.declared.StartAnswer.{StartAnswer}
-use Rattle.loader.specs.declared.StartAnswer.the-variants as start
-use Rattle.loader.specs.declared.Started.{Started}
+use Rattle.regions.specs.Memory.{Memory}
+use Rattle.sessions.specs.declared.Session.{Session}
 use Rattle.loader.specs.declared.CallAnswer.{CallAnswer}
 use Rattle.loader.specs.declared.CallAnswer.the-variants as call
 use Rattle.loader.specs.declared.Called.{Called}
-
--- "Start checks 1-8": "1 the board's disabled fuse is set; 2 MAIN size outside the rule", and then as the settings reader
-abbrev pub startNumbered : StartAnswer → Numbered
-startNumbered start.Started = numbered 0 0
-startNumbered start.FuseSet = numbered 1 0
-startNumbered start.MainSizeWrong = numbered 2 0
-startNumbered start.SettingsSizeWrong = numbered 3 0
-startNumbered start.ChecksumDiffers = numbered 4 0
-startNumbered start.FormUnknown = numbered 5 0
-startNumbered (start.EntryDiffers entry) = numbered 6 entry
-startNumbered start.FillerDiffers = numbered 7 0
-startNumbered start.ValueNotAllowed = numbered 8 0
-
--- all that start tells
-pub record StartTold : Type 0 where
-  pub answer : Numbered
-  pub session : Session
-
-abbrev pub startTold : Started → StartTold
-startTold started = record { answer = startNumbered (started .answer); session = started .session }
 
 -- a call's number, how many bytes its reply has, and whether the board is told to burn its fuse
 pub record CallTold : Type 0 where

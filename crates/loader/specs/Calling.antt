@@ -9,13 +9,14 @@ use Rattle.wire.specs.Codes.{replyLimit}
 use Rattle.wire.specs.Packet.{passwordIn, resetPasswordIn}
 use Rattle.replies.specs.Replies.{Sent}
 use Rattle.standing.specs.declared.Standing.{Standing}
+use Rattle.regions.specs.Memory.{Memory}
 use Rattle.decisions.specs.declared.Effect.{Effect}
 use Rattle.decisions.specs.declared.Judged.{Judged}
 use Rattle.judge.specs.Hearing.{judgedOf}
-use Rattle.act.specs.Memory.{Memory, Acted, Board, board}
+use Rattle.act.specs.Memory.{Acted, Board, board}
 use Rattle.act.specs.Acting.{actOf}
-use Rattle.act.specs.Answering.{answerOf}
-use Rattle.loader.specs.declared.Session.{Session}
+use Rattle.sending.specs.Answering.{answerOf}
+use Rattle.sessions.specs.declared.Session.{Session}
 use Rattle.loader.specs.Records.{isRecord}
 use Rattle.alike.specs.Alike.{areSame}
 use Rattle.loader.specs.Answers.{callTold, Left, left}

@@ -1,15 +1,16 @@
 // One call of a session: check the record, judge the packet, act on memory, answer.
 ghost use mathlib.Core.Path.{_≡_};
-ghost use Rattle.act.specs.Memory.{memory, acted};
+ghost use Rattle.regions.specs.Memory.{memory};
+ghost use Rattle.act.specs.Memory.{acted};
 ghost use Rattle.loader.specs.Answers.{callTold, callNumbered, callLeft};
 ghost use Rattle.loader.specs.Calling.{standsThen, judgement, deed, serveOf, callOf};
 use crate::CallAnswer;
 use crate::Called;
-use crate::Session;
 use crate::records;
 use decisions::Effect;
 use decisions::Judged;
 use replies::Reply;
+use sessions::Session;
 use wire::FIRST_AT;
 use wire::codes;
 
@@ -84,7 +85,7 @@ fn serve(
     let judged = judge_packet(session, wait, packet);
     let effect = judged.effect;
     let reply = act_on(effect, session, packet, main, image);
-    let size = act::answer(effect, reply, packet, session.main_size, main, image, area);
+    let size = sending::answer(effect, reply, packet, session.main_size, main, image, area);
     served(session, judged, size)
 }
 

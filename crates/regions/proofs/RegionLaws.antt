@@ -1,10 +1,11 @@
--- What an answer of the range check says of the range.
+-- What an answer of the range check says of the range, and how many bytes a range has.
 use mathlib.Core.Path.{_≡_, sym, ap, _∙_}
 use mathlib.Core.Bool.{true, false}
 use Prim.Native.Nat.{ℕ, _+_, _-_, _≤_, _<_}
 use native.Mathlib.Nat.{sub-zero}
 use native.Mathlib.Omega.{arith}
 use lib.Dec.{leb}
+use lib.ListN.{length, length-take}
 use borrow.Author.Tests.{leb-true, le-leb, lt-leb}
 use Rattle.octets.specs.Choice.{pick}
 use Rattle.octets.proofs.Searching.{pick-true, pick-false, pick-both, by-test}
@@ -12,7 +13,15 @@ use Rattle.regions.specs.declared.Part.{Part}
 use Rattle.regions.specs.declared.Place.{Place}
 use Rattle.regions.specs.declared.Region.{Region}
 use Rattle.regions.specs.declared.Region.the-variants.{Main, Settings, Outside}
-use Rattle.regions.specs.Regions.{mainStart, mspm0Part, liesWithin, placeIn, nowhere, placeOf}
+use Rattle.regions.specs.Regions.{mainStart, isMainSize, mspm0Part, liesWithin, placeIn, nowhere, placeOf}
+use Rattle.regions.specs.Memory.{Memory, bytesIn}
+
+-- ---- sizes of MAIN
+
+-- a size of MAIN needs no more than 17 bits
+pub main-size-is-small : (size : ℕ) → isMainSize size ≡ true → size ≤ 65536
+unfolding isMainSize
+main-size-is-small size h = leb-true size 65536 (pick-both _ _ (pick-both _ _ h .1) .0)
 
 -- ---- a range within a region
 
@@ -109,3 +118,11 @@ module _ (part : Part) (mainSize first count : ℕ) where
 -- 01, Marked cases, sides of limits: "Address 0xFFFFFFF8 with 16 bytes is 05 and never wraps."
 pub last-addresses-are-outside : (mainSize : ℕ) → mainSize ≤ 65536 → placeOf mspm0Part mainSize 0xFFFFFFF8 16 ≡ nowhere
 last-addresses-are-outside mainSize h = outside-is-told mspm0Part mainSize 0xFFFFFFF8 16 (omega arith) (range-past 0x41C00000 1024 0xFFFFFFF8 16 (omega arith))
+
+-- ---- the bytes
+
+-- no more of them than were asked for
+pub most-asked : (offset size : ℕ) (memory : Memory) (region : Region) → length (bytesIn offset size memory region) ≤ size
+most-asked offset size memory Main = simp length-take (omega arith)
+most-asked offset size memory Settings = simp length-take (omega arith)
+most-asked offset size memory Outside = omega arith

@@ -1,7 +1,7 @@
 -- 01, The loader and its edges: "MAIN flash starts at 0x00000000 .. Settings flash starts at 0x41C00000 and has 1,024 bytes."
-use Prim.Native.Nat.{ℕ, _+_, _-_}
+use Prim.Native.Nat.{ℕ, _+_, _-_, _%_}
 use mathlib.Core.Bool.{Bool, false}
-use lib.Dec.{leb}
+use lib.Dec.{leb, eqb}
 use Rattle.octets.specs.Choice.{pick}
 use Rattle.regions.specs.declared.Part.{Part}
 use Rattle.regions.specs.declared.Place.{Place}
@@ -11,6 +11,10 @@ use Rattle.regions.specs.declared.Region.the-variants.{Main, Settings, O
 -- "MAIN flash starts at 0x00000000"
 abbrev pub mainStart : ℕ
 mainStart = 0
+
+-- "MAIN flash .., 1,024 to 65,536 bytes, a multiple of 1,024."
+unfoldable pub isMainSize : ℕ → Bool
+isMainSize size = pick (leb 1024 size) (pick (leb size 65536) (eqb (size % 1024) 0) false) false
 
 -- "Settings flash starts at 0x41C00000 and has 1,024 bytes."
 abbrev pub mspm0Part : Part

@@ -1,6 +1,7 @@
-// Which region of the memory holds a range of addresses.
+// Which region of the memory holds a range of addresses, and the bytes there.
 ghost use mathlib.Core.Path.{_≡_};
-ghost use Rattle.regions.specs.Regions.{mspm0Part, liesWithin, placeOf};
+ghost use Rattle.regions.specs.Regions.{isMainSize, mspm0Part, liesWithin, placeOf};
+ghost use Rattle.regions.specs.Memory.{memory, bytesIn};
 
 // Where a range of addresses can lie.
 pub enum Region {
@@ -22,6 +23,25 @@ pub struct Part {
 }
 
 const MAIN_START: u32 = 0;
+
+const LEAST_MAIN: usize = 1024;
+
+const MOST_MAIN: usize = 65536;
+
+const MAIN_STEP: usize = 1024;
+
+// Whether MAIN may have so many bytes.
+pub fn is_main_size(size: usize) -> bool
+    ensures { λ r. ⌜ r ≡ isMainSize size ⌝ }
+{
+    if size < LEAST_MAIN {
+        return false;
+    }
+    if MOST_MAIN < size {
+        return false;
+    }
+    size % MAIN_STEP == 0
+}
 
 // The part of document 004.
 pub fn mspm0() -> Part
@@ -69,5 +89,22 @@ pub fn locate(part: Part, main_size: u32, first: u32, count: u64) -> Place
     Place {
         region: Region::Outside,
         offset: 0,
+    }
+}
+
+// So many bytes of a region, from a place on; none outside.
+pub fn bytes_in<'a>(
+    region: Region,
+    offset: usize,
+    size: usize,
+    main: &'a [u8],
+    image: &'a [u8],
+) -> &'a [u8]
+    ensures { λ r. ⌜ now r ≡ bytesIn offset size (memory (now (main .entry)) (now (image .entry))) region ⌝ }
+{
+    match region {
+        Region::Main => octets::part_of(main, offset, size),
+        Region::Settings => octets::part_of(image, offset, size),
+        Region::Outside => octets::part_of(main, 0, 0),
     }
 }

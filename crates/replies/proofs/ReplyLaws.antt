@@ -15,7 +15,7 @@ use Rattle.checksum.specs.Checksum.{checksumOf}
 use Rattle.replies.specs.declared.Reply.{Reply}
 use Rattle.replies.specs.declared.Reply.the-variants.{Silence, Acknowledged, Message, Info, Bytes, Sum}
 use Rattle.wire.specs.Codes.{replyLimit, replyHeader, acknowledged, readBackReply, infoReply, verifyReply, messageReply}
-use Rattle.replies.specs.Replies.{coreReply, infoOf, replyBytes, Sent, sent, sentOf}
+use Rattle.replies.specs.Replies.{coreReply, infoOf, readBackMost, replyBytes, Sent, sent, sentOf}
 
 -- silence leaves the area as it is
 pub nothing-sent : (area : List ℕ) → sentOf [] area ≡ sent 0 area
@@ -72,7 +72,7 @@ unfolding replyBytes
 read-back-has beside = length-core-reply readBackReply beside
 
 -- "Read back of 1,720 bytes fits": every reply has at most 1,729 bytes
-pub reply-fits : (reply : Reply) (beside : List ℕ) → length beside ≤ 1720 → length (replyBytes reply beside) ≤ replyLimit
+pub reply-fits : (reply : Reply) (beside : List ℕ) → length beside ≤ readBackMost → length (replyBytes reply beside) ≤ replyLimit
 unfolding replyBytes infoOf bytesOf
 reply-fits Silence beside h = omega arith
 reply-fits (Acknowledged code) beside h = omega arith
@@ -82,7 +82,7 @@ reply-fits Bytes beside h = omega (arith, length-core-reply readBackReply beside
 reply-fits (Sum sum) beside h = omega (arith, length-core-reply verifyReply (bytesOf 4 sum))
 
 -- so an area of 1,729 bytes takes every reply, and keeps what is past it
-pub reply-is-sent : (reply : Reply) (beside area : List ℕ) → length beside ≤ 1720 → replyLimit ≤ length area
+pub reply-is-sent : (reply : Reply) (beside area : List ℕ) → length beside ≤ readBackMost → replyLimit ≤ length area
     → sentOf (replyBytes reply beside) area
     ≡ sent (length (replyBytes reply beside)) (replyBytes reply beside ++ drop (length (replyBytes reply beside)) area)
 unfolding sentOf pick

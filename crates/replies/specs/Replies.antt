@@ -21,6 +21,10 @@ infoOf version bcr bsl =
     bytesOf 2 0x0100 ++ bytesOf 2 0x0100 ++ bytesOf 4 version ++ bytesOf 2 0x0001
     ++ bytesOf 2 packetLimit ++ bytesOf 4 0x20000160 ++ bytesOf 4 bcr ++ bytesOf 4 bsl
 
+-- "0x29 Read back .. above 1,720 .. 05": so many bytes stand beside a reply at most
+abbrev pub readBackMost : ℕ
+readBackMost = 1720
+
 -- "A message is 3B and one byte"; Info "31 and 24 bytes"; Read back "30 and the bytes", which stand beside the reply; Verify "32 and the checksum"
 unfoldable pub replyBytes : Reply → List ℕ → List ℕ
 replyBytes Silence beside = []

@@ -16,7 +16,7 @@ use Rattle.standing.specs.declared.Phase.{Phase}
 use Rattle.standing.specs.declared.Standing.{Standing}
 use Rattle.fields.specs.Bodies.{bodiesOf}
 use Rattle.fields.proofs.AgainLaws.{number-again, made-after-read}
-use Rattle.loader.specs.declared.Session.{Session}
+use Rattle.sessions.specs.declared.Session.{Session}
 use Rattle.loader.specs.Calling.{standsThen}
 use Rattle.rig.specs.Records.{phaseCode, lockCode, sleepOf, standingBytes, recordOf, phaseIn, standingIn, sessionIn, phaseFits, isRecordArea}
 use Rattle.rig.proofs.RecordLaws.{record-area-size}

@@ -12,7 +12,7 @@ use Rattle.octets.proofs.Searching.{pick-both}
 use Rattle.stores.proofs.Storing.{sets-join, stored-whole}
 use Rattle.standing.specs.declared.Standing.{Standing}
 use Rattle.fields.specs.Bodies.{bodiesOf}
-use Rattle.loader.specs.declared.Session.{Session}
+use Rattle.sessions.specs.declared.Session.{Session}
 use Rattle.rig.specs.Records.{phaseCode, lockCode, sleepOf, standingBytes, recordOf, isRecordArea}
 
 -- a record's area has its size

@@ -12,7 +12,8 @@ use Rattle.standing.specs.declared.Standing.{Standing}
 use Rattle.layout.specs.Layout.{form1}
 use Rattle.fields.specs.Bodies.{bodiesOf}
 use Rattle.fields.specs.Fields.{fieldsRead}
-use Rattle.loader.specs.declared.Session.{Session}
+use Rattle.sessions.specs.declared.Session.{Session}
+use Rattle.numbers.specs.FieldsArea.{fieldsSize}
 
 -- a record has 90 bytes: phase, lock, wrong count and rate id; then sleep, idle and the size of MAIN, four bytes each; then the settings' fields
 abbrev pub recordSize : ℕ
@@ -29,9 +30,6 @@ mainSizeAt = 12
 
 abbrev pub fieldsAt : ℕ
 fieldsAt = 16
-
-abbrev pub fieldsSize : ℕ
-fieldsSize = 74
 
 -- the zero byte of body 3
 abbrev pub unusedAt : ℕ

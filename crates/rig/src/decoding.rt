@@ -7,7 +7,7 @@ use crate::MAIN_SIZE_AT;
 use crate::RECORD_SIZE;
 use crate::SLEEP_AT;
 use crate::UNUSED_AT;
-use loader::Session;
+use sessions::Session;
 use standing::Phase;
 use standing::Standing;
 

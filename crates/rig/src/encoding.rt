@@ -7,7 +7,7 @@ use crate::FIELDS_AT;
 use crate::IDLE_AT;
 use crate::MAIN_SIZE_AT;
 use crate::SLEEP_AT;
-use loader::Session;
+use sessions::Session;
 use standing::Phase;
 use standing::Standing;
 

@@ -1,13 +1,10 @@
-// The boundary to C: functions on numbers and byte areas. docs/RECORD.md has the layout of the areas, include/bhorelmu.h the names.
+// A session from C: functions on numbers and byte areas. docs/RECORD.md has the layout of the areas, include/bhorelmu.h the names.
 mod answers;
 mod boundary;
 mod decoding;
 mod encoding;
 
 pub use boundary::bhorelmu_call;
-pub use boundary::bhorelmu_rate;
-pub use boundary::bhorelmu_settings_read;
-pub use boundary::bhorelmu_settings_write;
 pub use boundary::bhorelmu_start;
 
 // A session record as bytes: phase, lock, wrong count and rate id, then sleep, idle and the size of MAIN, then the settings' fields.
@@ -21,7 +18,5 @@ pub(crate) const MAIN_SIZE_AT: usize = 12;
 
 pub(crate) const FIELDS_AT: usize = 16;
 
-// The zero byte of body 3, in a record and among the fields.
+// The zero byte of body 3.
 pub(crate) const UNUSED_AT: usize = 69;
-
-pub(crate) const ZERO_AT: usize = 53;

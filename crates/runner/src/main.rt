@@ -5,8 +5,8 @@ ghost use Rattle.loader.specs.Answers.{callNumbered};
 use libc::STDIN_FILENO;
 use libc::STDOUT_FILENO;
 use loader::CallAnswer;
-use loader::Session;
 use script::Script;
+use sessions::Session;
 use standing::Standing;
 
 // The longest line: a number of three digits, a reply of 1,729 bytes, three characters each, and the line's end.
@@ -21,7 +21,7 @@ fn print_line(number: u8, reply: &[u8]) {
 fn print_end(standing: Standing) {
     let phase = standing.phase;
     let mut line = [0u8; LINE_SIZE];
-    let size = lines::write_end(phase, &mut line);
+    let size = end_line::write_end(phase, &mut line);
     io::write_all(STDOUT_FILENO, octets::part_of(&line, 0, size));
 }
 
@@ -60,7 +60,7 @@ fn play(script: &[u8], count: u8) {
     let mut main = [0xFFu8; 4096];
     let mut image = [0xFFu8; 1024];
     let mut reply = [0u8; 1729];
-    let mut session = loader::start(false, &main, &image).session;
+    let mut session = sessions::start(false, &main, &image).session;
     for index in 0..count {
         session = play_entry(script, index, session, &mut main, &mut image, &mut reply);
     }

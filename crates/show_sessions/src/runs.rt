@@ -7,7 +7,7 @@ use crate::rows::LINE_END_AT;
 use crate::rows::ROW_SIZE;
 use crate::text;
 use loader::Called;
-use loader::Session;
+use sessions::Session;
 use wire::codes;
 
 fn say_row(row: &[u8]) {
@@ -53,7 +53,7 @@ fn start(main: &mut [u8], image: &mut [u8], row: &[u8]) -> Session {
     stores::fill(main, 0x5A);
     boards::put_settings(row, image);
     show_board(row);
-    loader::start(false, main, image).session
+    sessions::start(false, main, image).session
 }
 
 fn step(session: Session, main: &mut [u8], image: &mut [u8], row: &[u8]) -> Session {
@@ -67,7 +67,7 @@ fn step(session: Session, main: &mut [u8], image: &mut [u8], row: &[u8]) -> Sess
 pub(crate) fn run(input: &[u8]) {
     let mut main = [0x5Au8; 4096];
     let mut image = [0xFFu8; settings::IMAGE_SIZE];
-    let mut session = loader::start(false, &main, &image).session;
+    let mut session = sessions::start(false, &main, &image).session;
     for i in 0..input.len() / ROW_SIZE {
         session = step(
             session,

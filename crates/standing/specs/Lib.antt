@@ -1,7 +1,5 @@
 -- How a session stands, in reading order; each definition names its sentence of document 01.
 -- Phases: how a session stands at start, and which standings are valid.
 pub mod Phases
--- Waits: how time passes.
-pub mod Waits
 -- Rates: the rates of the line, by their ids.
 pub mod Rates

@@ -1,11 +1,9 @@
-// How a session stands, how time passes for it, and the rates of the line. No memory, no settings and no password in here.
+// How a session stands, and the rates of the line. No memory, no settings and no password in here.
 mod phases;
 mod rates;
-mod waits;
 
 pub use phases::is_valid;
 pub use rates::rate_of;
-pub use waits::pass_time;
 
 // The most that a valid standing has of idle time, of sleep, both in milliseconds, and of wrong passwords.
 pub const MOST_IDLE: u32 = 9999;
@@ -13,9 +11,6 @@ pub const MOST_IDLE: u32 = 9999;
 pub const MOST_SLEEP: u32 = 2000;
 
 pub const MOST_WRONG: u8 = 3;
-
-// The idle time that ends detect, and locks the command phase.
-pub const IDLE_LIMIT: u32 = 10000;
 
 // The rate id at start, and after a wrong password.
 pub const FIRST_RATE: u8 = 2;
@@ -35,10 +30,4 @@ pub struct Standing {
     pub idle: u32,
     pub wrong: u8,
     pub rate: u8,
-}
-
-// How it stands after a wait, and whether the packet that came then is heard.
-pub struct Passed {
-    pub standing: Standing,
-    pub heard: bool,
 }

@@ -1,6 +1,6 @@
 // A new board for each request, such that the printed reply can arise: MAIN of 4,096 bytes 0xFF, both passwords all 0xFF, readout on.
 use loader::CallAnswer;
-use loader::Session;
+use sessions::Session;
 use values::Settings;
 use wire::CORE_AT;
 use wire::codes;
@@ -23,7 +23,7 @@ fn settings_for(packet: &[u8]) -> Settings {
 
 fn started(packet: &[u8], main: &[u8], image: &mut [u8]) -> Session {
     settings::write(settings_for(packet), image);
-    loader::start(false, main, image).session
+    sessions::start(false, main, image).session
 }
 
 fn unlocked(session: Session, main: &mut [u8], image: &mut [u8], area: &mut [u8]) -> Session {

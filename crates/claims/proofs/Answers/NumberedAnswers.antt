@@ -8,11 +8,12 @@ use Rattle.settings.specs.declared.ReadAnswer.the-variants as read
 use Rattle.settings.specs.declared.WriteAnswer.{WriteAnswer}
 use Rattle.settings.specs.declared.WriteAnswer.the-variants as write
 use Rattle.settings.specs.Answer.{Numbered, readNumbered, writeNumber}
-use Rattle.loader.specs.declared.StartAnswer.{StartAnswer}
-use Rattle.loader.specs.declared.StartAnswer.the-variants as start
+use Rattle.sessions.specs.declared.StartAnswer.{StartAnswer}
+use Rattle.sessions.specs.declared.StartAnswer.the-variants as start
 use Rattle.loader.specs.declared.CallAnswer.{CallAnswer}
 use Rattle.loader.specs.declared.CallAnswer.the-variants as call
-use Rattle.loader.specs.Answers.{startNumbered, CallTold, callNumbered}
+use Rattle.sessions.specs.Answers.{startNumbered}
+use Rattle.loader.specs.Answers.{CallTold, callNumbered}
 use Rattle.script.specs.declared.Script.{Script}
 use Rattle.script.specs.declared.Script.the-variants.{Good, Bad}
 use Rattle.script.specs.Form.{Told, scriptTold}

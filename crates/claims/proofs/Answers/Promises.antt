@@ -18,7 +18,7 @@ use Rattle.standing.specs.declared.Phase.{Phase}
 use Rattle.standing.specs.declared.Standing.{Standing}
 use Rattle.standing.specs.Phases.{isValid}
 use Rattle.standing.specs.Rates.{rateOf}
-use Rattle.standing.specs.Waits.{passTime}
+use Rattle.waits.specs.Waits.{passTime}
 use Rattle.values.specs.declared.Shown.{Shown}
 use Rattle.values.specs.declared.Settings.{Settings}
 use Rattle.values.specs.Values.{isAllowed, blankSettings, noSettings}
@@ -31,27 +31,33 @@ use Rattle.settings.specs.Answer.{numbered, readTold, writeLeft, writeNumber}
 use Rattle.settings.specs.Reader.{readOf}
 use Rattle.settings.specs.Writer.{writeOf}
 use Rattle.regions.specs.declared.Part.{Part}
-use Rattle.regions.specs.Regions.{mspm0Part, placeOf}
+use Rattle.regions.specs.declared.Region.{Region}
+use Rattle.regions.specs.Regions.{isMainSize, mspm0Part, placeOf}
+use Rattle.regions.specs.Memory.{memory, bytesIn}
 use Rattle.sectors.specs.Protection.{isProtected}
 use Rattle.sectors.specs.Erasing.{eraseOf, eraseAllOf}
 use Rattle.flash.specs.Programming.{programOf}
 use Rattle.decisions.specs.declared.Effect.{Effect}
 use Rattle.decisions.specs.Unlocking.{tried}
 use Rattle.judge.specs.Hearing.{judgedOf}
-use Rattle.act.specs.Memory.{memory, acted, board}
+use Rattle.act.specs.Memory.{acted, board}
 use Rattle.act.specs.Acting.{actOf}
-use Rattle.act.specs.Answering.{answerOf}
-use Rattle.loader.specs.declared.Session.{Session}
-use Rattle.loader.specs.declared.StartAnswer.{StartAnswer}
+use Rattle.sending.specs.Answering.{answerOf}
+use Rattle.sessions.specs.declared.Session.{Session}
+use Rattle.sessions.specs.declared.StartAnswer.{StartAnswer}
 use Rattle.loader.specs.declared.CallAnswer.{CallAnswer}
 use Rattle.loader.specs.declared.Called.{Called}
-use Rattle.loader.specs.Answers.{startNumbered, startTold, callNumbered, left, callLeft}
-use Rattle.loader.specs.Starting.{startOf}
+use Rattle.sessions.specs.Answers.{startNumbered, startTold}
+use Rattle.loader.specs.Answers.{callNumbered, left, callLeft}
+use Rattle.sessions.specs.Starting.{startOf}
 use Rattle.loader.specs.Calling.{callOf}
 use Rattle.in_place.specs.Starting.{startLeft, startInPlace}
+use Rattle.numbers.specs.Stored.{Stored, stored}
+use Rattle.rig_offline.specs.SettingsFromC.{readFromC, writeFromC}
 use Rattle.rig.specs.Boundary as rig
 use Rattle.script.specs.Form.{scriptTold, scriptOf, waitIn, packetIn}
-use Rattle.lines.specs.Writing.{lineOf, endOf, Written, written, writtenOf}
+use Rattle.lines.specs.Writing.{lineOf, Written, written, writtenOf}
+use Rattle.end_line.specs.EndLine.{endOf}
 use Rattle.claims.proofs.Answers.OneAnswer.{OneAnswer, given-back, as-said}
 use Rattle.claims.proofs.Answers.NumberedAnswers.{readBy, read-back, writtenBy, written-back, startedBy, started-back, calledBy, called-back, scriptBy, script-back}
 
@@ -130,6 +136,8 @@ is-valid-is-one standing = as-said (isValid standing)
 pub rate-of-is-one : (id : ℕ) → OneAnswer (λ r. r ≡ rateOf id)
 rate-of-is-one id = as-said (rateOf id)
 
+-- ---- waits
+
 pub pass-time-is-one : (standing : Standing) (wait : ℕ) → OneAnswer (λ r. r ≡ passTime standing wait)
 pass-time-is-one standing wait = as-said (passTime standing wait)
 
@@ -179,8 +187,15 @@ write-is-one settings image =
 pub mspm0-is-one : OneAnswer (λ r. r ≡ mspm0Part)
 mspm0-is-one = as-said mspm0Part
 
+pub is-main-size-is-one : (size : ℕ) → OneAnswer (λ r. r ≡ isMainSize size)
+is-main-size-is-one size = as-said (isMainSize size)
+
 pub locate-is-one : (part : Part) (mainSize first count : ℕ) → OneAnswer (λ r. r ≡ placeOf part mainSize first count)
 locate-is-one part mainSize first count = as-said (placeOf part mainSize first count)
+
+-- of the slice that comes back, the bytes
+pub bytes-in-is-one : (region : Region) (offset size : ℕ) (main image : List ℕ) → OneAnswer (λ r. r ≡ bytesIn offset size (memory main image) region)
+bytes-in-is-one region offset size main image = as-said (bytesIn offset size (memory main image) region)
 
 -- ---- sectors
 
@@ -197,6 +212,14 @@ erase-all-is-one memory sectorSize protection = as-said (eraseAllOf sectorSize p
 
 pub program-is-one : (memory : List ℕ) (sectorSize : ℕ) (protection : List ℕ) (at : ℕ) (bytes : List ℕ) → OneAnswer (λ memory'. memory' ≡ programOf sectorSize protection at bytes memory)
 program-is-one memory sectorSize protection at bytes = as-said (programOf sectorSize protection at bytes memory)
+
+-- ---- sessions
+
+pub start-is-one : (fuse : Bool) (main image : List ℕ) → OneAnswer (λ r. startTold r ≡ startOf fuse main image)
+start-is-one fuse main image =
+    given-back startTold (λ told. record { answer = startedBy (told .answer); session = told .session })
+    (λ r. ap (λ answer. record { answer = answer; session = r .session }) (started-back (r .answer)))
+    (startOf fuse main image)
 
 -- ---- decisions
 
@@ -217,17 +240,13 @@ act-is-one effect shown protection mainSize right packet main image =
     given-back (λ r. acted (r .0) (memory (r .1) (r .2))) (λ l. (l .reply, l .memory .main, l .memory .settings)) (λ r. refl)
     (actOf (board mainSize shown protection) right packet (memory main image) effect)
 
+-- ---- sending
+
 pub answer-is-one : (effect : Effect) (reply : Reply) (packet : List ℕ) (mainSize : ℕ) (main image area : List ℕ)
     → OneAnswer {A = ℕ × List ℕ} (λ r. sent (r .0) (r .1) ≡ answerOf effect reply packet mainSize (memory main image) area)
 answer-is-one effect reply packet mainSize main image area = sent-is-one (answerOf effect reply packet mainSize (memory main image) area)
 
 -- ---- loader
-
-pub start-is-one : (fuse : Bool) (main image : List ℕ) → OneAnswer (λ r. startTold r ≡ startOf fuse main image)
-start-is-one fuse main image =
-    given-back startTold (λ told. record { answer = startedBy (told .answer); session = told .session })
-    (λ r. ap (λ answer. record { answer = answer; session = r .session }) (started-back (r .answer)))
-    (startOf fuse main image)
 
 pub call-is-one : (session : Session) (main image : List ℕ) (wait : ℕ) (packet area : List ℕ)
     → OneAnswer {A = Called × List ℕ × List ℕ × List ℕ}
@@ -256,22 +275,24 @@ in-place-call-is-one session main image wait packet area =
     (λ r. ap (λ answer. (answer, r .1, r .2, r .3, r .4)) (called-back (r .0)))
     (callOf session (memory main image) wait packet area)
 
--- ---- rig
+-- ---- rig_offline
 
 pub bhorelmu-rate-is-one : (id : ℕ) → OneAnswer (λ r. r ≡ rateOf id)
 bhorelmu-rate-is-one = rate-of-is-one
 
-stored-is-one : (value : rig.Stored) → OneAnswer {A = ℕ × List ℕ} (λ r. rig.stored (r .0) (r .1) ≡ value)
-stored-is-one = given-back (λ r. rig.stored (r .0) (r .1)) (λ s. (s .answer, s .area)) (λ r. refl)
+stored-is-one : (value : Stored) → OneAnswer {A = ℕ × List ℕ} (λ r. stored (r .0) (r .1) ≡ value)
+stored-is-one = given-back (λ r. stored (r .0) (r .1)) (λ s. (s .answer, s .area)) (λ r. refl)
 
-pub bhorelmu-start-is-one : (fuse : ℕ) (main settings area : List ℕ) → OneAnswer {A = ℕ × List ℕ} (λ r. rig.stored (r .0) (r .1) ≡ rig.startFromC fuse main settings area)
+pub bhorelmu-settings-read-is-one : (image fields : List ℕ) → OneAnswer {A = ℕ × List ℕ} (λ r. stored (r .0) (r .1) ≡ readFromC image fields)
+bhorelmu-settings-read-is-one image fields = stored-is-one (readFromC image fields)
+
+pub bhorelmu-settings-write-is-one : (fields image : List ℕ) → OneAnswer {A = ℕ × List ℕ} (λ r. stored (r .0) (r .1) ≡ writeFromC fields image)
+bhorelmu-settings-write-is-one fields image = stored-is-one (writeFromC fields image)
+
+-- ---- rig
+
+pub bhorelmu-start-is-one : (fuse : ℕ) (main settings area : List ℕ) → OneAnswer {A = ℕ × List ℕ} (λ r. stored (r .0) (r .1) ≡ rig.startFromC fuse main settings area)
 bhorelmu-start-is-one fuse main settings area = stored-is-one (rig.startFromC fuse main settings area)
-
-pub bhorelmu-settings-read-is-one : (image fields : List ℕ) → OneAnswer {A = ℕ × List ℕ} (λ r. rig.stored (r .0) (r .1) ≡ rig.readFromC image fields)
-bhorelmu-settings-read-is-one image fields = stored-is-one (rig.readFromC image fields)
-
-pub bhorelmu-settings-write-is-one : (fields image : List ℕ) → OneAnswer {A = ℕ × List ℕ} (λ r. rig.stored (r .0) (r .1) ≡ rig.writeFromC fields image)
-bhorelmu-settings-write-is-one fields image = stored-is-one (rig.writeFromC fields image)
 
 pub bhorelmu-call-is-one : (area main settings : List ℕ) (wait : ℕ) (packet reply : List ℕ)
     → OneAnswer {A = ℕ × List ℕ × List ℕ × List ℕ × List ℕ}
@@ -300,6 +321,8 @@ line-is-one = given-back (λ r. written (r .0) (r .1)) (λ w. (w .size, w .area)
 
 pub write-line-is-one : (number : ℕ) (reply area : List ℕ) → OneAnswer {A = ℕ × List ℕ} (λ r. written (r .0) (r .1) ≡ writtenOf (lineOf number reply) area)
 write-line-is-one number reply area = line-is-one (writtenOf (lineOf number reply) area)
+
+-- ---- end_line
 
 pub write-end-is-one : (phase : Phase) (area : List ℕ) → OneAnswer {A = ℕ × List ℕ} (λ r. written (r .0) (r .1) ≡ writtenOf (endOf phase) area)
 write-end-is-one phase area = line-is-one (writtenOf (endOf phase) area)

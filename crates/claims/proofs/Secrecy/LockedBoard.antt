@@ -9,17 +9,18 @@ use Rattle.octets.specs.Choice.{pick}
 use Rattle.octets.proofs.Searching.{pick-true, pick-false, by-test}
 use Rattle.standing.specs.declared.Standing.{Standing}
 use Rattle.standing.specs.Phases.{atStart, isUnlocked}
+use Rattle.regions.specs.Memory.{Memory, memory}
 use Rattle.sectors.specs.Erasing.{eraseAllOf}
 use Rattle.sectors.proofs.ErasingLaws.{erase-all-keeps-length, erase-all-at, erase-all-twice}
 use Rattle.decisions.specs.Unlocking.{alertReset}
-use Rattle.act.specs.Memory.{Memory, memory, Board, board, sectorSize, settingsProtection}
+use Rattle.act.specs.Memory.{Board, board, sectorSize, settingsProtection}
 use Rattle.act.specs.Erasing.{allErased}
 use Rattle.act.specs.Showing.{versionAt}
 use Rattle.act.proofs.LockedLaws.{erased-versions-alike}
-use Rattle.loader.specs.declared.Session.{Session}
+use Rattle.sessions.specs.declared.Session.{Session}
 use Rattle.loader.specs.Answers.{CallTold, left}
 use Rattle.loader.specs.Records.{isRecord}
-use Rattle.loader.specs.Starting.{startOf}
+use Rattle.sessions.specs.Starting.{startOf}
 use Rattle.claims.specs.TwoBoards.{Images, Running, settingsOf, started, isStruck, AsClaimed, Flash}
 use Rattle.claims.proofs.Sessions.CallRules.{started-session, started-is-valid}
 

@@ -12,6 +12,7 @@ use Rattle.wire.specs.Codes.{replyLimit}
 use Rattle.replies.specs.Replies.{replyBytes, Sent}
 use Rattle.standing.specs.declared.Standing.{Standing}
 use Rattle.standing.specs.Phases.{isUnlocked}
+use Rattle.regions.specs.Memory.{Memory}
 use Rattle.decisions.specs.declared.Effect.{Effect}
 use Rattle.decisions.specs.declared.Effect.the-variants.{Strike}
 use Rattle.decisions.specs.declared.Judged.{Judged}
@@ -20,13 +21,14 @@ use Rattle.decisions.proofs.EffectTests.{isPerformed}
 use Rattle.judge.specs.Hearing.{judgedOf}
 use Rattle.judge.proofs.JudgeLaws.{wrong-never-unlocks, locked-performs-nothing, strikes-at-three}
 use Rattle.judge.proofs.StrangerLaws.{only-unlock-is-compared, no-third-without-strike}
-use Rattle.act.specs.Memory.{Memory, Acted}
-use Rattle.act.specs.Answering.{hushed, answerOf}
-use Rattle.act.proofs.AnsweringLaws.{whole, act-is-told-whole}
-use Rattle.act.proofs.LockedLaws.{only-strikes-change, no-bytes-asked}
+use Rattle.act.specs.Memory.{Acted}
+use Rattle.act.proofs.LockedLaws.{only-strikes-change}
+use Rattle.sending.specs.Answering.{hushed, answerOf}
+use Rattle.sending.proofs.AnsweringLaws.{whole, no-bytes-asked}
 use Rattle.loader.specs.Answers.{Left, left, callTold}
 use Rattle.loader.specs.Calling.{judgement, deed, carriedOut, serveOf}
 use Rattle.loader.proofs.RecordLaws.{record-by-clauses}
+use Rattle.loader.proofs.ToldLaws.{act-is-told-whole}
 use Rattle.claims.specs.TwoBoards.{Images, settingsOf, Carries, Sending, called, next, isStruck}
 use Rattle.claims.proofs.Sessions.CallRules.{not-found, valid-is-served, valid-stays-valid}
 use Rattle.claims.proofs.Secrecy.LockedBoard.{alertOf, lets, memoryThen, sessionThen, later, HasRecord, Locked, strike-erases}

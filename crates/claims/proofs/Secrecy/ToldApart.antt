@@ -16,8 +16,8 @@ use Rattle.decisions.specs.declared.Judged.{Judged}
 use Rattle.decisions.proofs.EffectTests.{isPerformed}
 use Rattle.judge.specs.Hearing.{judgedOf}
 use Rattle.act.specs.Showing.{versionAt}
-use Rattle.act.specs.Answering.{hushed}
 use Rattle.act.proofs.LockedLaws.{told-alike}
+use Rattle.sending.specs.Answering.{hushed}
 use Rattle.loader.specs.Answers.{callTold}
 use Rattle.claims.specs.TwoBoards.{Images, settingsOf, started, AlikeBoards, Sending, WithoutPassword, called, isStruck, Alike, AlikeThroughout}
 use Rattle.claims.proofs.Secrecy.LockedBoard.{imageThen, versions-stay-alike, alertOf, lets, later, Locked, flash-is-as-claimed, started-is-later, started-is-locked}

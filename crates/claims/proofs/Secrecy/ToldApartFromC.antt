@@ -17,14 +17,16 @@ use Rattle.standing.specs.Phases.{isUnlocked}
 use Rattle.layout.specs.Layout.{form1}
 use Rattle.settings.specs.Answer.{numbered}
 use Rattle.settings.specs.Reader.{readOf}
-use Rattle.loader.specs.declared.Session.{Session}
+use Rattle.sessions.specs.declared.Session.{Session}
 use Rattle.loader.specs.Answers.{CallTold, Left}
-use Rattle.loader.specs.Starting.{startOf}
+use Rattle.sessions.specs.Starting.{startOf}
 use Rattle.loader.specs.Calling.{serveOf, callOf}
 use Rattle.loader.proofs.CallLaws.{every-call, call-size-fits}
 use Rattle.loader.proofs.RecordLaws.{record-by-clauses}
+use Rattle.numbers.specs.OneNumber.{refusalUnit, burnUnit, oneNumber}
+use Rattle.numbers.specs.Stored.{Stored, stored, storedBy}
 use Rattle.rig.specs.Records.{recordSize, lockCode, standingBytes, recordOf}
-use Rattle.rig.specs.Boundary.{refusalUnit, burnUnit, oneNumber, Stored, stored, storedBy, Called, storedAfter, calledFrom, calledAfter, callFromC}
+use Rattle.rig.specs.Boundary.{Called, storedAfter, calledFrom, calledAfter, callFromC}
 use Rattle.claims.specs.Held.{Held}
 use Rattle.claims.specs.TwoBoards.{Images, Running, settingsOf, started, AlikeBoards, Sending, called, next, replied, isStruck, Flash, Alike, AlikeThroughout}
 use Rattle.claims.specs.TwoBoardsFromC.{RunningFromC, startedOn, startedFromC, Lent, calledFromC, repliedFromC, standsFromC, lockIn, isStruckFromC, FlashFromC, AlikeFromC, AlikeCallsFromC, AlikeSessionsFromC}

@@ -19,12 +19,16 @@ use Rattle.settings.specs.Image.{imageOf}
 use Rattle.settings.specs.Answer.{Numbered, numbered, WriteLeft, writeLeft}
 use Rattle.settings.specs.Reader.{readOf}
 use Rattle.settings.specs.Writer.{writeOf}
-use Rattle.act.specs.Memory.{Memory}
+use Rattle.regions.specs.Memory.{Memory}
+use Rattle.numbers.specs.OneNumber.{refusalUnit, burnUnit, oneNumber, refusal, refusalOf}
+use Rattle.numbers.specs.Stored.{Stored, storedBy}
+use Rattle.numbers.specs.FieldsArea.{fieldsSize, zeroAt}
+use Rattle.rig_offline.specs.SettingsFromC.{readFromC, writeFromC}
 use Rattle.loader.specs.Answers.{Left}
 use Rattle.loader.specs.Calling.{callOf}
 use Rattle.loader.proofs.CallLaws.{refused-changes-nothing, call-size-fits}
-use Rattle.rig.specs.Records.{recordSize, fieldsSize, recordOf, sessionIn, isRecordArea}
-use Rattle.rig.specs.Boundary.{refusalUnit, burnUnit, oneNumber, refusal, refusalOf, Stored, storedBy, startByFuse, startFromC, readFromC, writeFromC, zeroAt, Called, called, storedAfter, calledFrom, calledAfter, callFromC}
+use Rattle.rig.specs.Records.{recordSize, recordOf, sessionIn, isRecordArea}
+use Rattle.rig.specs.Boundary.{startByFuse, startFromC, Called, called, storedAfter, calledFrom, calledAfter, callFromC}
 
 -- the top byte of eight is not 0
 abbrev Refused : ℕ → Type 0

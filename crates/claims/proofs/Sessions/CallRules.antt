@@ -19,25 +19,27 @@ use Rattle.wire.specs.Commands.{commandOf}
 use Rattle.wire.proofs.PacketLaws.{unlock-is-password}
 use Rattle.standing.specs.declared.Phase.the-variants as phase
 use Rattle.standing.specs.Phases.{mostWrong}
-use Rattle.standing.specs.Waits.{passTime}
+use Rattle.waits.specs.Waits.{passTime}
 use Rattle.standing.proofs.PhaseLaws.{valid-by-parts, start-is-valid}
-use Rattle.standing.proofs.WaitLaws.{long-wait-is-heard}
+use Rattle.waits.proofs.WaitLaws.{long-wait-is-heard}
 use Rattle.values.specs.Values.{isAllowed, blankSettings}
 use Rattle.layout.specs.Layout.{imageSize, form1}
 use Rattle.layout.specs.Entries.{differingEntry}
 use Rattle.fields.specs.Bodies.{bodyIn, shownIn, settingsIn}
 use Rattle.settings.specs.Answer.{ReadTold, numbered}
 use Rattle.settings.specs.Reader.{isBlank, checksumDiffers, formUnknown, fillerDiffers, valueNotAllowed, readWritten, readOf}
+use Rattle.regions.specs.Memory.{Memory}
 use Rattle.decisions.specs.declared.Judged.{Judged}
 use Rattle.judge.proofs.JudgeLaws.{judge-keeps-valid, wrong-count-rises}
 use Rattle.judge.proofs.StrangerLaws.{only-unlock-is-compared}
-use Rattle.act.specs.Memory.{Memory}
 use Rattle.act.proofs.ActingLaws.{act-keeps-lengths}
-use Rattle.loader.specs.declared.Session.{Session}
-use Rattle.loader.specs.Answers.{StartTold, Left}
+use Rattle.sessions.specs.declared.Session.{Session}
+use Rattle.sessions.specs.Answers.{StartTold}
+use Rattle.loader.specs.Answers.{Left}
 use Rattle.alike.specs.Alike.{areSame}
-use Rattle.loader.specs.Records.{isMainSize, isRecord}
-use Rattle.loader.specs.Starting.{sessionOf, startRead, startOf}
+use Rattle.regions.specs.Regions.{isMainSize}
+use Rattle.loader.specs.Records.{isRecord}
+use Rattle.sessions.specs.Starting.{sessionOf, startRead, startOf}
 use Rattle.loader.specs.Calling.{boardOf, judgement, serveOf, callOf}
 use Rattle.loader.proofs.CallLaws.{every-call}
 use Rattle.alike.proofs.AlikeLaws.{same-are-equal}

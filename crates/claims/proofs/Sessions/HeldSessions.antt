@@ -21,9 +21,10 @@ use Rattle.layout.specs.Entries.{differingEntry}
 use Rattle.fields.specs.Bodies.{shownIn, settingsIn}
 use Rattle.settings.specs.Answer.{ReadTold}
 use Rattle.settings.specs.Reader.{isBlank, checksumDiffers, formUnknown, fillerDiffers, valueNotAllowed, readWritten, readOf}
-use Rattle.loader.specs.declared.Session.{Session}
+use Rattle.sessions.specs.declared.Session.{Session}
 use Rattle.loader.specs.Records.{isRecord}
-use Rattle.loader.proofs.RecordLaws.{main-size-is-small, record-by-clauses}
+use Rattle.regions.proofs.RegionLaws.{main-size-is-small}
+use Rattle.loader.proofs.RecordLaws.{record-by-clauses}
 use Rattle.rig.specs.Records.{sleepOf}
 use Rattle.claims.specs.Held.{Bytes, Held, HeldSession}
 use Rattle.claims.proofs.Settings.SettingsRule.{blank-held}

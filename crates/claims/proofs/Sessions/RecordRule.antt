@@ -18,9 +18,9 @@ use Rattle.standing.specs.declared.Phase.the-variants.{Detect, Command, Standby
 use Rattle.layout.specs.Layout.{form1, lengthOf, offsetOf, sumOf, tableEnd}
 use Rattle.fields.specs.Bodies.{bodiesOf}
 use Rattle.fields.specs.Fields as fields
-use Rattle.loader.specs.declared.Session.{Session}
-use Rattle.rig.specs.Records.{recordSize, fieldsAt, fieldsSize, unusedAt, phaseCode, lockCode, sleepOf, recordOf, phaseIn, standingIn, sessionIn, phaseFits, isRecordArea}
-use Rattle.rig.specs.Boundary.{zeroAt}
+use Rattle.sessions.specs.declared.Session.{Session}
+use Rattle.numbers.specs.FieldsArea.{fieldsSize, zeroAt}
+use Rattle.rig.specs.Records.{recordSize, fieldsAt, unusedAt, phaseCode, lockCode, sleepOf, recordOf, phaseIn, standingIn, sessionIn, phaseFits, isRecordArea}
 use Rattle.rig.proofs.RecordAgain.{encode-after-decode}
 use Rattle.claims.specs.Held.{HeldSession}
 use Rattle.claims.proofs.Settings.FieldsRule.{read-after-made, fields-size, made-unused}

@@ -16,8 +16,8 @@ use Rattle.settings.specs.Answer.{ReadTold, accepted}
 use Rattle.settings.specs.Reader.{readOf}
 use Rattle.decisions.specs.Unlocking.{alertReset}
 use Rattle.act.specs.Showing.{versionAt}
-use Rattle.loader.specs.Records.{isMainSize}
-use Rattle.loader.specs.Starting.{startRead, startOf}
+use Rattle.regions.specs.Regions.{isMainSize}
+use Rattle.sessions.specs.Starting.{startRead, startOf}
 use Rattle.claims.specs.Held.{Held}
 use Rattle.claims.specs.TwoBoards.{Images, settingsOf, AlikeBoards}
 use Rattle.claims.specs.Trials.{mainSize, blankBoard, chosen, writtenBoard, quietBoard, strictBoard, Differ}

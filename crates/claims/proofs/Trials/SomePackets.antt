@@ -16,7 +16,7 @@ use Rattle.wire.specs.Commands.{lengthFits, openOf, commandOf}
 use Rattle.standing.specs.declared.Phase.the-variants.{Command}
 use Rattle.standing.specs.declared.Standing.{Standing}
 use Rattle.standing.specs.Phases.{firstRate, mostSleep, atStart}
-use Rattle.standing.specs.Waits.{isIdleTooLong, detectIdles, commandIdles, passTime}
+use Rattle.waits.specs.Waits.{isIdleTooLong, detectIdles, commandIdles, passTime}
 use Rattle.decisions.specs.Unlocking.{countedUp, alertReset, alerted, triedWrong, tried}
 use Rattle.judge.specs.Hearing.{stirred, heardInDetect, heardInCommand, heardAfter, judgedOf}
 use Rattle.claims.specs.Trials.{connects, unlocks}

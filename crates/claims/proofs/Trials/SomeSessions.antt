@@ -20,16 +20,17 @@ use Rattle.standing.specs.declared.Standing.{Standing}
 use Rattle.standing.specs.Phases.{mostSleep, atStart}
 use Rattle.values.specs.declared.Settings.{Settings}
 use Rattle.settings.specs.Answer.{ReadTold}
+use Rattle.regions.specs.Memory.{Memory, memory}
 use Rattle.sectors.specs.Protection.{isProtected}
 use Rattle.sectors.proofs.ErasingLaws.{erase-all-of-open}
 use Rattle.decisions.specs.declared.Effect.the-variants.{Say}
 use Rattle.decisions.specs.Judgement.{says}
 use Rattle.decisions.specs.Unlocking.{alertReset, tried}
 use Rattle.judge.specs.Hearing.{judgedOf}
-use Rattle.act.specs.Memory.{Memory, memory, sectorSize, settingsProtection}
-use Rattle.act.specs.Answering.{hushed}
-use Rattle.act.proofs.AnsweringLaws.{others-are-told, answer-is-whole}
-use Rattle.loader.specs.declared.Session.{Session}
+use Rattle.act.specs.Memory.{sectorSize, settingsProtection}
+use Rattle.sending.specs.Answering.{hushed}
+use Rattle.sending.proofs.AnsweringLaws.{others-are-told, answer-is-whole}
+use Rattle.sessions.specs.declared.Session.{Session}
 use Rattle.alike.specs.Alike.{areSame}
 use Rattle.loader.specs.Calling.{carriedOut, serveOf}
 use Rattle.claims.specs.TwoBoards.{Images, Running, settingsOf, started, Carries, Sending, called, next, replied, isStruck}

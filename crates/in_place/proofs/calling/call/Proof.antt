@@ -40,12 +40,12 @@ use denote.Triple.Clauses.{ensured, lasts}
 use denote.Triple.Table.{entered, cited}
 use denote.Triple.Walked.{says, Stays, stay-ref, stay-dropped, gave-slice, walkOf, goes-dropped, goes-gave-slice, goes-ref, ends-at, walked, walk-meets}
 use denote.Exit.{yes}
-use Rattle.act.specs.Memory.{memory}
+use Rattle.regions.specs.Memory.{memory}
 use Rattle.loader.specs.Answers.{callLeft}
 use Rattle.loader.specs.Calling.{callOf}
-use Rattle.loader.specs.declared.Session.{Session}
+use Rattle.sessions.specs.declared.Session.{Session}
 use Rattle.loader.specs.declared.Called.{Called}
-use Rattle.loader.proofs.Session as S
+use Rattle.sessions.proofs.Session as S
 use Rattle.loader.proofs.Called as R
 use Rattle.loader.proofs.Called.Laws as R′
 use Rattle.loader.proofs.CallAnswer as O

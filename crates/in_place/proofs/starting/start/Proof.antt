@@ -41,14 +41,14 @@ use denote.Triple.Clauses.{ensured, lasts}
 use denote.Triple.Table.{entered, cited}
 use denote.Triple.Walked.{says, Stays, stay-ref, stay-dropped, walkOf, goes-dropped, goes-ref, ends-at, walked, walk-meets}
 use denote.Exit.{yes}
-use Rattle.loader.specs.Answers.{startTold}
-use Rattle.loader.specs.declared.Session.{Session}
-use Rattle.loader.specs.declared.Started.{Started}
-use Rattle.loader.proofs.Session as S
-use Rattle.loader.proofs.Started as R
-use Rattle.loader.proofs.Started.Laws as R′
-use Rattle.loader.proofs.StartAnswer as O
-use Rattle.loader.proofs.StartAnswer.Laws as O′
+use Rattle.sessions.specs.Answers.{startTold}
+use Rattle.sessions.specs.declared.Session.{Session}
+use Rattle.sessions.specs.declared.Started.{Started}
+use Rattle.sessions.proofs.Session as S
+use Rattle.sessions.proofs.Started as R
+use Rattle.sessions.proofs.Started.Laws as R′
+use Rattle.sessions.proofs.StartAnswer as O
+use Rattle.sessions.proofs.StartAnswer.Laws as O′
 use Rattle.in_place.specs.Starting.{startInPlace}
 use Rattle.in_place.proofs.RecordSteps.{sessionVal, sliceAt, held-typed, takes-out, puts-back, gives-up}
 use Rattle.in_place.proofs.starting.start_or_keep as core

@@ -4,7 +4,7 @@ use native.Mathlib.Omega.{arith}
 use borrow.Author.Needs.{needs}
 use borrow.Author.Tests.{lt-ltb, le-ltb, not-true, not-false}
 use Rattle.octets.specs.Choice.{pick}
-use Rattle.act.specs.Memory.{memory}
+use Rattle.regions.specs.Memory.{memory}
 use Rattle.loader.specs.Answers.{Left}
 use Rattle.loader.specs.Calling.{standsThen}
 use Rattle.loader.proofs.CallLaws.{call-size-fits, call-keeps-settings}

@@ -4,7 +4,7 @@ use mathlib.Core.Bool.{not}
 use native.Mathlib.Omega.{arith}
 use borrow.Author.Needs.{needs}
 use lib.Dec.{eqb}
-use Rattle.loader.proofs.StartLaws.{start-entry-there}
+use Rattle.sessions.proofs.StartLaws.{start-entry-there}
 use Rattle.rig.proofs.boundary.bhorelmu_start.Statement.{statement}
 use Rattle.rig.proofs.boundary.bhorelmu_start.Tie as tie
 

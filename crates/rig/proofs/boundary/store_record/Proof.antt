@@ -2,7 +2,7 @@
 use borrow.Author.Needs.{needs}
 use borrow.Author.Tests.{eq-eqb, ne-eqb}
 use Rattle.octets.specs.Choice.{pick}
-use Rattle.rig.specs.Boundary.{storedBy}
+use Rattle.numbers.specs.Stored.{storedBy}
 use Rattle.rig.proofs.boundary.store_record.Statement.{statement}
 use Rattle.rig.proofs.boundary.store_record.Tie as tie
 

@@ -1,0 +1,2 @@
+-- SettingsFromC: what the settings reader and the settings writer leave.
+pub mod SettingsFromC

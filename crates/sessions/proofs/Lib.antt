@@ -1,0 +1,2 @@
+-- StartLaws: what start tells beside its number.
+pub mod StartLaws

@@ -1,0 +1,89 @@
+// Starting a session: the refusals of document 01 in their order, or the session.
+ghost use mathlib.Core.Path.{_≡_};
+ghost use Rattle.standing.specs.Phases.{atStart};
+ghost use Rattle.settings.specs.Answer.{readNumbered, readTold};
+ghost use Rattle.sessions.specs.Answers.{startNumbered, startTold};
+ghost use Rattle.sessions.specs.Starting.{sessionOf, startRead, startOf, startRefused};
+use crate::Session;
+use crate::StartAnswer;
+use crate::Started;
+use settings::ReadAnswer;
+use settings::Reading;
+use standing::FIRST_RATE;
+use standing::Phase;
+use standing::Standing;
+use values::Settings;
+
+// How a session stands at start.
+fn at_start() -> Standing
+    ensures { λ r. ⌜ r ≡ atStart ⌝ }
+{
+    Standing {
+        phase: Phase::Detect,
+        idle: 0,
+        wrong: 0,
+        rate: FIRST_RATE,
+    }
+}
+
+// The session of a board with this size of MAIN and these settings.
+fn session_of(main_size: u32, settings: Settings) -> Session
+    ensures { λ r. ⌜ r ≡ sessionOf «main_size» settings ⌝ }
+{
+    Session {
+        standing: at_start(),
+        main_size,
+        settings,
+    }
+}
+
+fn refused(answer: StartAnswer) -> Started
+    ensures { λ r. ⌜ startTold r ≡ startRefused (startNumbered answer .number) (startNumbered answer .entry) ⌝ }
+{
+    let session = session_of(0, values::none());
+    Started { answer, session }
+}
+
+// Start answers as the settings reader does.
+fn answer_of(answer: ReadAnswer) -> StartAnswer
+    ensures { λ r. ⌜ startNumbered r ≡ readNumbered answer ⌝ }
+{
+    match answer {
+        ReadAnswer::Accepted => StartAnswer::Started,
+        ReadAnswer::SizeWrong => StartAnswer::SettingsSizeWrong,
+        ReadAnswer::ChecksumDiffers => StartAnswer::ChecksumDiffers,
+        ReadAnswer::FormUnknown => StartAnswer::FormUnknown,
+        ReadAnswer::EntryDiffers(entry) => StartAnswer::EntryDiffers(entry),
+        ReadAnswer::FillerDiffers => StartAnswer::FillerDiffers,
+        ReadAnswer::ValueNotAllowed => StartAnswer::ValueNotAllowed,
+    }
+}
+
+// The session of settings that were read, if they were.
+fn start_read(main_size: u32, reading: Reading) -> Started
+    ensures { λ r. ⌜ startTold r ≡ startRead «main_size» (readTold reading) ⌝ }
+{
+    let answer = reading.answer;
+    if let ReadAnswer::Accepted = answer {
+        let session = session_of(main_size, reading.settings);
+        return Started {
+            answer: StartAnswer::Started,
+            session,
+        };
+    }
+    refused(answer_of(answer))
+}
+
+// Starts a session on a board: its fuse, its MAIN flash and its settings flash.
+pub fn start(fuse: bool, main: &[u8], image: &[u8]) -> Started
+    ensures { λ r. ⌜ startTold r ≡ startOf fuse (now (main .entry)) (now (image .entry)) ⌝ }
+{
+    if fuse {
+        return refused(StartAnswer::FuseSet);
+    }
+    let size = main.len();
+    if !regions::is_main_size(size) {
+        return refused(StartAnswer::MainSizeWrong);
+    }
+    start_read(size as u32, settings::read(image))
+}
