@@ -19,9 +19,9 @@ use Rattle.sectors.proofs.ErasingLaws.{erase-all-keeps-length, erase-all-in-one
 use Rattle.decisions.specs.declared.Effect.{Effect}
 use Rattle.decisions.specs.declared.Effect.the-variants.{Say, TellInfo, Strike, Perform}
 use Rattle.decisions.proofs.EffectTests.{isPerformed}
+use Rattle.info.specs.Info.{versionSize, versionAt}
 use Rattle.act.specs.Memory.{Board, sectorSize}
 use Rattle.act.specs.Erasing.{allErased}
-use Rattle.act.specs.Showing.{versionSize, versionAt}
 use Rattle.act.specs.Acting.{actOf}
 
 -- ---- memory

@@ -9,10 +9,11 @@ use Rattle.wire.specs.declared.Guarded.the-variants as guarded
 use Rattle.decisions.specs.declared.Effect.{Effect}
 use Rattle.decisions.specs.declared.Effect.the-variants.{Say, TellInfo, Strike, Perform}
 use Rattle.regions.specs.Memory.{Memory}
+use Rattle.info.specs.Info.{infoReply}
 use Rattle.act.specs.Memory.{Acted, acted, tells, Board}
 use Rattle.act.specs.Erasing.{rangeErase, massErase, factoryReset, struck}
 use Rattle.act.specs.Programming.{program}
-use Rattle.act.specs.Showing.{infoReply, readBack, verify}
+use Rattle.act.specs.Showing.{readBack, verify}
 
 -- a protected command of an unlocked session; "wrong L 06; then each one's own checks"
 abbrev pub performed : Board → Bool → List ℕ → Memory → Guarded → Acted

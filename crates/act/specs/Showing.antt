@@ -1,35 +1,18 @@
--- 01, Commands: 0x19 Info, 0x29 Read back, 0x26 Verify. None of them changes memory.
-use Prim.Native.Nat.{ℕ, _+_, _%_}
-use mathlib.Core.List.{List}
-use lib.Dec.{ltb, leb, eqb}
-use lib.ListN.{length}
+-- 01, Commands: 0x29 Read back, 0x26 Verify. Neither changes memory.
+use Prim.Native.Nat.{ℕ}
+use lib.Dec.{ltb, eqb}
 use Rattle.octets.specs.Choice.{pick}
-use Rattle.octets.specs.Number.{numberAt}
 use Rattle.checksum.specs.Checksum.{checksumOf}
 use Rattle.wire.specs.Codes as codes
 use Rattle.replies.specs.declared.Reply.{Reply}
-use Rattle.replies.specs.declared.Reply.the-variants.{Message, Info, Bytes, Sum}
+use Rattle.replies.specs.declared.Reply.the-variants.{Message, Bytes, Sum}
 use Rattle.replies.specs.Replies.{readBackMost}
-use Rattle.values.specs.declared.Shown.{Shown}
 use Rattle.regions.specs.declared.Region.{Region}
 use Rattle.regions.specs.declared.Place.{Place}
 use Rattle.regions.specs.Regions.{mspm0Part, placeOf}
 use Rattle.regions.specs.Memory.{Memory, bytesAt}
 use Rattle.act.specs.Memory.{Board}
 use Rattle.act.specs.Programming.{isOutside}
-
--- "version (4)"
-abbrev pub versionSize : ℕ
-versionSize = 4
-
--- "Version is the four MAIN bytes at the pointer if it is a multiple of 4 (ours) and all four lie in MAIN, else 0."
-unfoldable pub versionAt : ℕ → List ℕ → ℕ
-versionAt pointer main =
-    pick (eqb (pointer % versionSize) 0) (pick (leb (pointer + versionSize) (length main)) (numberAt pointer versionSize main) 0) 0
-
--- "version (4) .. BCR id, BSL id"
-abbrev pub infoReply : Shown → List ℕ → Reply
-infoReply shown main = Info (versionAt (shown .«version_pointer») main) (shown .«bcr_id») (shown .«bsl_id»)
 
 -- 01, Settings image, kind 3: "readout (two bytes, on only at 0xAABB)"
 abbrev pub readoutOn : ℕ

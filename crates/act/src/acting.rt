@@ -78,7 +78,7 @@ pub fn act(
 {
     match effect {
         Effect::Say(reply) => reply,
-        Effect::TellInfo => showing::info(shown, main),
+        Effect::TellInfo => info::info(shown, main),
         Effect::Strike => {
             erasing::erase_both(protection, shown.settings_protected, main, image);
             Reply::Message(codes::ALERT_TAKEN)

@@ -1,15 +1,12 @@
-// Info, Read back and Verify: none of them changes memory.
+// Read back and Verify: neither changes memory.
 ghost use mathlib.Core.Path.{_≡_};
 ghost use Rattle.regions.specs.Regions.{mspm0Part, placeOf};
 ghost use Rattle.regions.specs.Memory.{memory};
-ghost use Rattle.act.specs.Showing.{versionAt, infoReply, readBackIn, verifyAt};
+ghost use Rattle.act.specs.Showing.{readBackIn, verifyAt};
 use crate::memory;
 use regions::Region;
 use replies::Reply;
-use values::Shown;
 use wire::codes;
-
-const VERSION_SIZE: u32 = 4;
 
 const READOUT_ON: u16 = 0xAABB;
 
@@ -18,29 +15,6 @@ const READ_BACK_MOST: u32 = 1720;
 const VERIFY_LEAST: u32 = 1024;
 
 const VERIFY_MOST: u32 = 65536;
-
-// The version that the pointer leads to, or 0. The sum is of 64 bits, so it does not wrap.
-fn version_at(pointer: u32, main: &[u8]) -> u32
-    ensures { λ r. ⌜ r ≡ versionAt pointer (now (main .entry)) ⌝ }
-{
-    if pointer % VERSION_SIZE != 0 {
-        return 0;
-    }
-    if pointer as u64 + VERSION_SIZE as u64 <= main.len() as u64 {
-        return octets::number32_at(main, pointer as usize);
-    }
-    0
-}
-
-pub(crate) fn info(shown: Shown, main: &[u8]) -> Reply
-    ensures { λ r. ⌜ r ≡ infoReply shown (now (main .entry)) ⌝ }
-{
-    Reply::Info {
-        version: version_at(shown.version_pointer, main),
-        bcr_id: shown.bcr_id,
-        bsl_id: shown.bsl_id,
-    }
-}
 
 // Whether a range may be read back; its bytes are taken where the reply is written.
 pub(crate) fn read_back(readout: u16, main_size: u32, address: u32, size: u32) -> Reply

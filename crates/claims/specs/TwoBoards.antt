@@ -19,7 +19,7 @@ use Rattle.regions.specs.Memory.{Memory}
 use Rattle.sectors.specs.Protection.{mayChange}
 use Rattle.decisions.specs.Unlocking.{alertReset}
 use Rattle.act.specs.Memory.{sectorSize, settingsProtection}
-use Rattle.act.specs.Showing.{versionAt}
+use Rattle.info.specs.Info.{versionAt}
 use Rattle.sessions.specs.declared.Session.{Session}
 use Rattle.loader.specs.Answers.{Left}
 use Rattle.sessions.specs.Starting.{startOf}

@@ -5,20 +5,16 @@ use mathlib.Core.List.{[], _∷_}
 use lib.Dec.{eqb}
 use denote.Enum.Declared.{tagOf}
 use types.Run.{OneOf, miss}
+use Rattle.settings.proofs.ReaderLaws.{refuses}
 use Rattle.sessions.specs.declared.StartAnswer.{StartAnswer}
 use Rattle.sessions.specs.declared.StartAnswer.the-variants as start
 use Rattle.sessions.specs.Answers.{startNumbered}
 use Rattle.sessions.proofs.StartAnswer.{the-type}
 
 -- an answer that is none but the first refuses
-pub not-started : (answer : StartAnswer) → OneOf (1 ∷ 2 ∷ 3 ∷ 4 ∷ 5 ∷ 6 ∷ 7 ∷ 8 ∷ []) (tagOf the-type answer)
+pub not-started : (answer : StartAnswer) → OneOf (1 ∷ 2 ∷ 3 ∷ []) (tagOf the-type answer)
     → eqb (startNumbered answer .number) 0 ≡ false
-not-started start.Started h = absurd (miss (1 ∷ 2 ∷ 3 ∷ 4 ∷ 5 ∷ 6 ∷ 7 ∷ 8 ∷ []) 0 tt h)
+not-started start.Started h = absurd (miss (1 ∷ 2 ∷ 3 ∷ []) 0 tt h)
 not-started start.FuseSet h = refl
 not-started start.MainSizeWrong h = refl
-not-started start.SettingsSizeWrong h = refl
-not-started start.ChecksumDiffers h = refl
-not-started start.FormUnknown h = refl
-not-started (start.EntryDiffers entry) h = refl
-not-started start.FillerDiffers h = refl
-not-started start.ValueNotAllowed h = refl
+not-started (start.ImageRefused refusal) h = refuses refusal

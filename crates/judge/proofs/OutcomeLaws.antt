@@ -15,7 +15,7 @@ use Rattle.wire.specs.declared.Command.{Command}
 use Rattle.wire.specs.declared.Command.the-variants as command
 use Rattle.wire.specs.Acknowledgement.{isRate, acknowledgement}
 use Rattle.wire.specs.Commands.{commandOf, isKnown}
-use Rattle.wire.proofs.PacketLaws.{rate-is-known}
+use Rattle.packets.proofs.PacketLaws.{rate-is-known}
 use Rattle.replies.specs.declared.Reply.{Reply}
 use Rattle.replies.specs.declared.Reply.the-variants.{Acknowledged, Message}
 use Rattle.standing.specs.declared.Phase.{Phase}

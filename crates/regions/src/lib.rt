@@ -1,4 +1,4 @@
-// Which region of the memory holds a range of addresses, and the bytes there.
+// The regions of memory: which sizes MAIN may have, which region holds a range of addresses, and the bytes there.
 ghost use mathlib.Core.Path.{_≡_};
 ghost use Rattle.regions.specs.Regions.{isMainSize, mspm0Part, liesWithin, placeOf};
 ghost use Rattle.regions.specs.Memory.{memory, bytesIn};

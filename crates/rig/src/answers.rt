@@ -5,21 +5,15 @@ ghost use Rattle.numbers.specs.OneNumber.{oneNumber, refusalOf};
 ghost use Rattle.sessions.specs.Answers.{startNumbered};
 use sessions::StartAnswer;
 
-// What start answers; an entry goes below its refusal.
+// What start answers.
 pub(crate) fn of_start(answer: StartAnswer) -> u64
-    requires { ⌜ startNumbered answer .entry < 4294967296 ⌝ }
     ensures { λ r. ⌜ r ≡ refusalOf (startNumbered answer) ⌝ }
 {
     match answer {
         StartAnswer::Started => 0,
         StartAnswer::FuseSet => numbers::FUSE_SET,
         StartAnswer::MainSizeWrong => numbers::MAIN_SIZE_WRONG,
-        StartAnswer::SettingsSizeWrong => numbers::SETTINGS_SIZE_WRONG,
-        StartAnswer::ChecksumDiffers => numbers::CHECKSUM_DIFFERS,
-        StartAnswer::FormUnknown => numbers::FORM_UNKNOWN,
-        StartAnswer::EntryDiffers(entry) => numbers::ENTRY_DIFFERS + entry as u64,
-        StartAnswer::FillerDiffers => numbers::FILLER_DIFFERS,
-        StartAnswer::ValueNotAllowed => numbers::VALUE_NOT_ALLOWED,
+        StartAnswer::ImageRefused(refusal) => numbers::of_refusal(refusal),
     }
 }
 

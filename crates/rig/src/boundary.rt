@@ -19,7 +19,6 @@ use wire::codes;
 
 // Stores the record of a session that was started.
 fn store_record(started: Started, area: &mut [u8]) -> u64
-    requires { ⌜ startNumbered (started .answer) .entry < 4294967296 ⌝ }
     ensures { λ r. ⌜ stored r (now (area .exit)) ≡ storedBy (startNumbered (started .answer)) recordSize (recordOf (started .session)) (now (area .entry)) ⌝ }
 {
     let answer = started.answer;

@@ -1,6 +1,5 @@
 // The settings image from C.
 ghost use mathlib.Core.Path.{_≡_};
-ghost use Prim.Native.Nat.{_<_};
 ghost use Rattle.fields.specs.Bodies.{bodiesOf};
 ghost use Rattle.settings.specs.Answer.{readNumbered};
 ghost use Rattle.numbers.specs.Stored.{stored, storedBy};
@@ -14,7 +13,6 @@ const ZERO_AT: usize = 53;
 
 // Stores the fields of settings that were read.
 fn store_fields(reading: Reading, area: &mut [u8]) -> u64
-    requires { ⌜ readNumbered (reading .answer) .entry < 4294967296 ⌝ }
     ensures { λ r. ⌜ stored r (now (area .exit)) ≡ storedBy (readNumbered (reading .answer)) fieldsSize (bodiesOf (reading .settings)) (now (area .entry)) ⌝ }
 {
     let answer = reading.answer;

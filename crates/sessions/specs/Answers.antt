@@ -1,5 +1,5 @@
 -- 01, Numbers of refused calls: the number of each answer of start, and what goes with it. A start that is not refused has the number 0.
-use Rattle.settings.specs.Answer.{Numbered, numbered}
+use Rattle.settings.specs.Answer.{Numbered, numbered, refusalNumbered}
 use Rattle.sessions.specs.declared.Session.{Session}
 use Rattle.sessions.specs.declared.StartAnswer.{StartAnswer}
 use Rattle.sessions.specs.declared.StartAnswer.the-variants as start
@@ -10,12 +10,7 @@ abbrev pub startNumbered : StartAnswer → Numbered
 startNumbered start.Started = numbered 0 0
 startNumbered start.FuseSet = numbered 1 0
 startNumbered start.MainSizeWrong = numbered 2 0
-startNumbered start.SettingsSizeWrong = numbered 3 0
-startNumbered start.ChecksumDiffers = numbered 4 0
-startNumbered start.FormUnknown = numbered 5 0
-startNumbered (start.EntryDiffers entry) = numbered 6 entry
-startNumbered start.FillerDiffers = numbered 7 0
-startNumbered start.ValueNotAllowed = numbered 8 0
+startNumbered (start.ImageRefused refusal) = refusalNumbered refusal
 
 -- all that start tells
 pub record StartTold : Type 0 where

@@ -1,6 +1,7 @@
 // A session of a board, and how it starts.
 mod starting;
 
+use settings::Refusal;
 use standing::Standing;
 pub use starting::start;
 use values::Settings;
@@ -12,17 +13,12 @@ pub struct Session {
     pub settings: Settings,
 }
 
-// What start answers. An entry is told by its number, counted from 1.
+// What start answers.
 pub enum StartAnswer {
     Started,
     FuseSet,
     MainSizeWrong,
-    SettingsSizeWrong,
-    ChecksumDiffers,
-    FormUnknown,
-    EntryDiffers(usize),
-    FillerDiffers,
-    ValueNotAllowed,
+    ImageRefused(Refusal),
 }
 
 // The answer, and the session that was started; beside a refusal stands one that every call refuses.

@@ -1,7 +1,7 @@
 // Starting a session: the refusals of document 01 in their order, or the session.
 ghost use mathlib.Core.Path.{_≡_};
 ghost use Rattle.standing.specs.Phases.{atStart};
-ghost use Rattle.settings.specs.Answer.{readNumbered, readTold};
+ghost use Rattle.settings.specs.Answer.{readTold};
 ghost use Rattle.sessions.specs.Answers.{startNumbered, startTold};
 ghost use Rattle.sessions.specs.Starting.{sessionOf, startRead, startOf, startRefused};
 use crate::Session;
@@ -44,34 +44,18 @@ fn refused(answer: StartAnswer) -> Started
     Started { answer, session }
 }
 
-// Start answers as the settings reader does.
-fn answer_of(answer: ReadAnswer) -> StartAnswer
-    ensures { λ r. ⌜ startNumbered r ≡ readNumbered answer ⌝ }
-{
-    match answer {
-        ReadAnswer::Accepted => StartAnswer::Started,
-        ReadAnswer::SizeWrong => StartAnswer::SettingsSizeWrong,
-        ReadAnswer::ChecksumDiffers => StartAnswer::ChecksumDiffers,
-        ReadAnswer::FormUnknown => StartAnswer::FormUnknown,
-        ReadAnswer::EntryDiffers(entry) => StartAnswer::EntryDiffers(entry),
-        ReadAnswer::FillerDiffers => StartAnswer::FillerDiffers,
-        ReadAnswer::ValueNotAllowed => StartAnswer::ValueNotAllowed,
-    }
-}
-
 // The session of settings that were read, if they were.
 fn start_read(main_size: u32, reading: Reading) -> Started
     ensures { λ r. ⌜ startTold r ≡ startRead «main_size» (readTold reading) ⌝ }
 {
     let answer = reading.answer;
-    if let ReadAnswer::Accepted = answer {
-        let session = session_of(main_size, reading.settings);
-        return Started {
+    match answer {
+        ReadAnswer::Accepted => Started {
             answer: StartAnswer::Started,
-            session,
-        };
+            session: session_of(main_size, reading.settings),
+        },
+        ReadAnswer::Refused(refusal) => refused(StartAnswer::ImageRefused(refusal)),
     }
-    refused(answer_of(answer))
 }
 
 // Starts a session on a board: its fuse, its MAIN flash and its settings flash.

@@ -3,8 +3,10 @@ use Prim.Native.Nat.{ℕ}
 use mathlib.Core.List.{List}
 use Rattle.values.specs.declared.Settings.{Settings}
 use Rattle.settings.specs.declared.Reading.{Reading}
+use Rattle.settings.specs.declared.Refusal.{Refusal}
+use Rattle.settings.specs.declared.Refusal.the-variants.{SizeWrong, ChecksumDiffers, FormUnknown, EntryDiffers, FillerDiffers, ValueNotAllowed}
 use Rattle.settings.specs.declared.ReadAnswer.{ReadAnswer}
-use Rattle.settings.specs.declared.ReadAnswer.the-variants.{Accepted, SizeWrong, ChecksumDiffers, FormUnknown, EntryDiffers, FillerDiffers, ValueNotAllowed}
+use Rattle.settings.specs.declared.ReadAnswer.the-variants.{Accepted, Refused}
 use Rattle.settings.specs.declared.WriteAnswer.{WriteAnswer}
 use Rattle.settings.specs.declared.WriteAnswer.the-variants as write
 use Rattle.values.specs.Values.{noSettings}
@@ -19,20 +21,17 @@ numbered number entry = record { number = number; entry = entry }
 
 -- "3 settings area not 1,024 bytes; 4 not blank and checksum differs; 5 form not 1 or count not 6; 6 an entry differs from the table;
 -- 7 a byte of 126..1,019 is not 0xFF; 8 a value in body 3 is not allowed"; "that entry's number, counted from 1, goes with refusal 6"
+abbrev pub refusalNumbered : Refusal → Numbered
+refusalNumbered SizeWrong = numbered 3 0
+refusalNumbered ChecksumDiffers = numbered 4 0
+refusalNumbered FormUnknown = numbered 5 0
+refusalNumbered (EntryDiffers entry) = numbered 6 entry
+refusalNumbered FillerDiffers = numbered 7 0
+refusalNumbered ValueNotAllowed = numbered 8 0
+
 abbrev pub readNumbered : ReadAnswer → Numbered
 readNumbered Accepted = numbered 0 0
-readNumbered SizeWrong = numbered 3 0
-readNumbered ChecksumDiffers = numbered 4 0
-readNumbered FormUnknown = numbered 5 0
-readNumbered (EntryDiffers entry) = numbered 6 entry
-readNumbered FillerDiffers = numbered 7 0
-readNumbered ValueNotAllowed = numbered 8 0
-
-abbrev pub readNumber : ReadAnswer → ℕ
-readNumber answer = readNumbered answer .number
-
-abbrev pub readEntry : ReadAnswer → ℕ
-readEntry answer = readNumbered answer .entry
+readNumbered (Refused refusal) = refusalNumbered refusal
 
 -- all that the reader tells
 pub record ReadTold : Type 0 where
@@ -42,8 +41,8 @@ pub record ReadTold : Type 0 where
 
 abbrev pub readTold : Reading → ReadTold
 readTold reading = record {
-  number = readNumber (reading .answer);
-  entry = readEntry (reading .answer);
+  number = readNumbered (reading .answer) .number;
+  entry = readNumbered (reading .answer) .entry;
   settings = reading .settings;
 }
 

@@ -16,15 +16,20 @@ const BODIES_END: usize = layout::BODIES_AT + fields::FIELDS_SIZE;
 
 const FILLER_SIZE: usize = CHECKSUM_AT - BODIES_END;
 
-// What the reader answers. An entry is told by its number, counted from 1.
-pub enum ReadAnswer {
-    Accepted,
+// Why an image is refused. An entry is told by its number, counted from 1.
+pub enum Refusal {
     SizeWrong,
     ChecksumDiffers,
     FormUnknown,
-    EntryDiffers(usize),
+    EntryDiffers(u8),
     FillerDiffers,
     ValueNotAllowed,
+}
+
+// What the reader answers.
+pub enum ReadAnswer {
+    Accepted,
+    Refused(Refusal),
 }
 
 // The answer, and the settings that were read; beside a refusal stand settings that no call takes.

@@ -7,7 +7,7 @@ ghost use Rattle.octets.specs.Choice.{pick};
 ghost use Rattle.layout.specs.Layout.{form1};
 ghost use Rattle.values.specs.Values.{isAllowed};
 ghost use Rattle.fields.specs.Bodies.{settingsIn};
-ghost use Rattle.settings.specs.Answer.{readTold, readNumber, readEntry, refusedAt, accepted};
+ghost use Rattle.settings.specs.Answer.{readTold, refusalNumbered, refusedAt, accepted};
 ghost use Rattle.settings.specs.Reader.{checksumDiffers, formUnknown, fillerDiffers, valueNotAllowed, readWritten, readOf};
 use crate::BODIES_END;
 use crate::CHECKSUM_AT;
@@ -15,6 +15,7 @@ use crate::FILLER_SIZE;
 use crate::IMAGE_SIZE;
 use crate::ReadAnswer;
 use crate::Reading;
+use crate::Refusal;
 use values::Settings;
 use values::Shown;
 
@@ -50,11 +51,14 @@ fn value_not_allowed(shown: Shown, zero: u8) -> bool
     zero != 0
 }
 
-fn refused(answer: ReadAnswer) -> Reading
-    ensures { λ r. ⌜ readTold r ≡ refusedAt (readNumber answer) (readEntry answer) ⌝ }
+fn refused(refusal: Refusal) -> Reading
+    ensures { λ r. ⌜ readTold r ≡ refusedAt (refusalNumbered refusal .number) (refusalNumbered refusal .entry) ⌝ }
 {
     let settings = values::none();
-    Reading { answer, settings }
+    Reading {
+        answer: ReadAnswer::Refused(refusal),
+        settings,
+    }
 }
 
 fn accepting(settings: Settings) -> Reading
@@ -74,7 +78,7 @@ fn read_bodies(image: &[u8]) -> Reading
     let bodies = octets::part_of(image, layout::BODIES_AT, fields::FIELDS_SIZE);
     let settings = fields::read_fields(bodies);
     if value_not_allowed(settings.shown, octets::byte_at(bodies, fields::ZERO_AT)) {
-        return refused(ReadAnswer::ValueNotAllowed);
+        return refused(Refusal::ValueNotAllowed);
     }
     accepting(settings)
 }
@@ -85,17 +89,17 @@ fn read_written(image: &[u8]) -> Reading
     ensures { λ r. ⌜ readTold r ≡ readWritten form1 (now (image .entry)) ⌝ }
 {
     if checksum_differs(image) {
-        return refused(ReadAnswer::ChecksumDiffers);
+        return refused(Refusal::ChecksumDiffers);
     }
     if form_unknown(image) {
-        return refused(ReadAnswer::FormUnknown);
+        return refused(Refusal::FormUnknown);
     }
     let entry = layout::differing_entry(image);
     if entry != 0 {
-        return refused(ReadAnswer::EntryDiffers(entry));
+        return refused(Refusal::EntryDiffers(entry as u8));
     }
     if filler_differs(image) {
-        return refused(ReadAnswer::FillerDiffers);
+        return refused(Refusal::FillerDiffers);
     }
     read_bodies(image)
 }
@@ -105,7 +109,7 @@ pub fn read(image: &[u8]) -> Reading
     ensures { λ r. ⌜ readTold r ≡ readOf form1 (now (image .entry)) ⌝ }
 {
     if image.len() != IMAGE_SIZE {
-        return refused(ReadAnswer::SizeWrong);
+        return refused(Refusal::SizeWrong);
     }
     if alike::all_are(0xFF, image) {
         return accepting(values::blank());

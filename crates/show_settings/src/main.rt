@@ -10,7 +10,7 @@ fn show_blank() -> Settings {
     let reading = settings::read(&[0xFF; 1024]);
     let answer = reading.answer;
     text::say(b"          blank image:");
-    answers::say_answer(answers::read_number(answer), answers::read_entry(answer));
+    answers::say_reading(answer);
     contents::show_settings(reading.settings);
     reading.settings
 }
@@ -19,7 +19,7 @@ fn show_written(settings: Settings) -> [u8; 1024] {
     let mut image = [0u8; 1024];
     let answer = settings::write(settings, &mut image);
     text::say(b"\n its settings written:");
-    answers::say_answer(answers::write_number(answer), 0);
+    answers::say_writing(answer);
     contents::show_image(&image);
     image
 }

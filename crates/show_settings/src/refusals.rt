@@ -12,7 +12,7 @@ fn show_reading(names: &[u8], row: u8, image: &[u8]) {
     let reading = settings::read(image);
     let answer = reading.answer;
     text::say_name(names, row);
-    answers::say_answer(answers::read_number(answer), answers::read_entry(answer));
+    answers::say_reading(answer);
 }
 
 // One byte is changed and the checksum stored anew; the byte goes in again after that, since it may be one of the checksum's.
@@ -69,7 +69,7 @@ the image, read again:
 fn show_writing(names: &[u8], row: u8, settings: Settings, area: &mut [u8]) {
     let answer = settings::write(settings, area);
     text::say_name(names, row);
-    answers::say_answer(answers::write_number(answer), 0);
+    answers::say_writing(answer);
     if alike::all_are(LENT, area) {
         text::say(b", area unchanged");
     }

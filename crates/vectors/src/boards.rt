@@ -26,11 +26,22 @@ fn started(packet: &[u8], main: &[u8], image: &mut [u8]) -> Session {
     sessions::start(false, main, image).session
 }
 
+// The session after a packet that comes without a wait.
+fn after(
+    session: Session,
+    packet: &[u8],
+    main: &mut [u8],
+    image: &mut [u8],
+    area: &mut [u8],
+) -> Session {
+    loader::call(session, main, image, 0, packet, area).session
+}
+
 fn unlocked(session: Session, main: &mut [u8], image: &mut [u8], area: &mut [u8]) -> Session {
     let mut unlock = [0xFF; 40];
     stores::put(&mut unlock, 0, b"\x80\x21\x00\x21");
     stores::put(&mut unlock, 36, b"\x02\xAA\xF0\x3D");
-    loader::call(session, main, image, 0, &unlock, area).session
+    after(session, &unlock, main, image, area)
 }
 
 // Connect comes to a session that was just started, Unlock to a locked one, and any other command to an unlocked one.
@@ -45,7 +56,7 @@ fn made_ready(
         return session;
     }
     let connect = b"\x80\x01\x00\x12\x3A\x61\x44\xDE";
-    let connected = loader::call(session, main, image, 0, connect, area).session;
+    let connected = after(session, connect, main, image, area);
     if code == codes::UNLOCK {
         return connected;
     }

@@ -1,13 +1,16 @@
 -- 01, Numbers of refused calls: a number, and what goes with it, gives the answer back. So the numbers tell every two answers apart.
-use mathlib.Core.Path.{_≡_, refl}
+use mathlib.Core.Path.{_≡_, refl, ap, _∙_}
 use Prim.Native.Nat.{ℕ}
 use lib.Dec.{eqb}
 use Rattle.octets.specs.Choice.{pick}
+use Rattle.settings.specs.declared.Refusal.{Refusal}
+use Rattle.settings.specs.declared.Refusal.the-variants as refusal
 use Rattle.settings.specs.declared.ReadAnswer.{ReadAnswer}
 use Rattle.settings.specs.declared.ReadAnswer.the-variants as read
 use Rattle.settings.specs.declared.WriteAnswer.{WriteAnswer}
 use Rattle.settings.specs.declared.WriteAnswer.the-variants as write
-use Rattle.settings.specs.Answer.{Numbered, readNumbered, writeNumber}
+use Rattle.settings.specs.Answer.{Numbered, refusalNumbered, readNumbered, writeNumber}
+use Rattle.settings.proofs.ReaderLaws.{refuses}
 use Rattle.sessions.specs.declared.StartAnswer.{StartAnswer}
 use Rattle.sessions.specs.declared.StartAnswer.the-variants as start
 use Rattle.loader.specs.declared.CallAnswer.{CallAnswer}
@@ -20,25 +23,31 @@ use Rattle.script.specs.Form.{Told, scriptTold}
 
 -- ---- the settings reader
 
+unfoldable pub refusedBy : Numbered → Refusal
+refusedBy told =
+    pick (eqb (told .number) 3) refusal.SizeWrong
+    (pick (eqb (told .number) 4) refusal.ChecksumDiffers
+    (pick (eqb (told .number) 5) refusal.FormUnknown
+    (pick (eqb (told .number) 6) (refusal.EntryDiffers (told .entry))
+    (pick (eqb (told .number) 7) refusal.FillerDiffers
+    refusal.ValueNotAllowed))))
+
+refused-back : (why : Refusal) → refusedBy (refusalNumbered why) ≡ why
+unfolding refusedBy pick
+refused-back refusal.SizeWrong = refl
+refused-back refusal.ChecksumDiffers = refl
+refused-back refusal.FormUnknown = refl
+refused-back (refusal.EntryDiffers entry) = refl
+refused-back refusal.FillerDiffers = refl
+refused-back refusal.ValueNotAllowed = refl
+
 unfoldable pub readBy : Numbered → ReadAnswer
-readBy told =
-    pick (eqb (told .number) 3) read.SizeWrong
-    (pick (eqb (told .number) 4) read.ChecksumDiffers
-    (pick (eqb (told .number) 5) read.FormUnknown
-    (pick (eqb (told .number) 6) (read.EntryDiffers (told .entry))
-    (pick (eqb (told .number) 7) read.FillerDiffers
-    (pick (eqb (told .number) 8) read.ValueNotAllowed
-    read.Accepted)))))
+readBy told = pick (eqb (told .number) 0) read.Accepted (read.Refused (refusedBy told))
 
 pub read-back : (answer : ReadAnswer) → readBy (readNumbered answer) ≡ answer
 unfolding readBy pick
 read-back read.Accepted = refl
-read-back read.SizeWrong = refl
-read-back read.ChecksumDiffers = refl
-read-back read.FormUnknown = refl
-read-back (read.EntryDiffers entry) = refl
-read-back read.FillerDiffers = refl
-read-back read.ValueNotAllowed = refl
+read-back (read.Refused why) = rw (refuses why, refused-back why)
 
 -- ---- the settings writer
 
@@ -55,27 +64,27 @@ written-back write.ValueNotAllowed = refl
 
 unfoldable pub startedBy : Numbered → StartAnswer
 startedBy told =
-    pick (eqb (told .number) 1) start.FuseSet
+    pick (eqb (told .number) 0) start.Started
+    (pick (eqb (told .number) 1) start.FuseSet
     (pick (eqb (told .number) 2) start.MainSizeWrong
-    (pick (eqb (told .number) 3) start.SettingsSizeWrong
-    (pick (eqb (told .number) 4) start.ChecksumDiffers
-    (pick (eqb (told .number) 5) start.FormUnknown
-    (pick (eqb (told .number) 6) (start.EntryDiffers (told .entry))
-    (pick (eqb (told .number) 7) start.FillerDiffers
-    (pick (eqb (told .number) 8) start.ValueNotAllowed
-    start.Started)))))))
+    (start.ImageRefused (refusedBy told))))
+
+-- a refused image has none of the numbers before 3
+image-refused-back : (why : Refusal) → startedBy (refusalNumbered why) ≡ start.ImageRefused (refusedBy (refusalNumbered why))
+unfolding startedBy pick
+image-refused-back refusal.SizeWrong = refl
+image-refused-back refusal.ChecksumDiffers = refl
+image-refused-back refusal.FormUnknown = refl
+image-refused-back (refusal.EntryDiffers entry) = refl
+image-refused-back refusal.FillerDiffers = refl
+image-refused-back refusal.ValueNotAllowed = refl
 
 pub started-back : (answer : StartAnswer) → startedBy (startNumbered answer) ≡ answer
 unfolding startedBy pick
 started-back start.Started = refl
 started-back start.FuseSet = refl
 started-back start.MainSizeWrong = refl
-started-back start.SettingsSizeWrong = refl
-started-back start.ChecksumDiffers = refl
-started-back start.FormUnknown = refl
-started-back (start.EntryDiffers entry) = refl
-started-back start.FillerDiffers = refl
-started-back start.ValueNotAllowed = refl
+started-back (start.ImageRefused why) = image-refused-back why ∙ ap start.ImageRefused (refused-back why)
 
 -- ---- a call
 

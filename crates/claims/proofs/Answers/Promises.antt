@@ -27,7 +27,8 @@ use Rattle.layout.specs.Entries.{differingEntry}
 use Rattle.fields.specs.Bodies.{bodiesOf}
 use Rattle.fields.specs.Fields.{fieldsRead}
 use Rattle.settings.specs.declared.WriteAnswer.{WriteAnswer}
-use Rattle.settings.specs.Answer.{numbered, readTold, writeLeft, writeNumber}
+use Rattle.settings.specs.declared.Refusal.{Refusal}
+use Rattle.settings.specs.Answer.{numbered, refusalNumbered, readTold, writeLeft, writeNumber}
 use Rattle.settings.specs.Reader.{readOf}
 use Rattle.settings.specs.Writer.{writeOf}
 use Rattle.regions.specs.declared.Part.{Part}
@@ -37,6 +38,7 @@ use Rattle.regions.specs.Memory.{memory, bytesIn}
 use Rattle.sectors.specs.Protection.{isProtected}
 use Rattle.sectors.specs.Erasing.{eraseOf, eraseAllOf}
 use Rattle.flash.specs.Programming.{programOf}
+use Rattle.info.specs.Info.{infoReply}
 use Rattle.decisions.specs.declared.Effect.{Effect}
 use Rattle.decisions.specs.Unlocking.{tried}
 use Rattle.judge.specs.Hearing.{judgedOf}
@@ -52,6 +54,7 @@ use Rattle.loader.specs.Answers.{callNumbered, left, callLeft}
 use Rattle.sessions.specs.Starting.{startOf}
 use Rattle.loader.specs.Calling.{callOf}
 use Rattle.in_place.specs.Starting.{startLeft, startInPlace}
+use Rattle.numbers.specs.OneNumber.{refusalOf}
 use Rattle.numbers.specs.Stored.{Stored, stored}
 use Rattle.rig_offline.specs.SettingsFromC.{readFromC, writeFromC}
 use Rattle.rig.specs.Boundary as rig
@@ -231,6 +234,11 @@ tried-is-one standing alert right = as-said (tried standing alert right)
 pub judge-is-one : (standing : Standing) (alert wait : ℕ) (packet : List ℕ) (right : Bool) → OneAnswer (λ r. r ≡ judgedOf standing alert wait packet right)
 judge-is-one standing alert wait packet right = as-said (judgedOf standing alert wait packet right)
 
+-- ---- info
+
+pub info-is-one : (shown : Shown) (main : List ℕ) → OneAnswer (λ r. r ≡ infoReply shown main)
+info-is-one shown main = as-said (infoReply shown main)
+
 -- ---- act
 
 pub act-is-one : (effect : Effect) (shown : Shown) (protection : List ℕ) (mainSize : ℕ) (right : Bool) (packet main image : List ℕ)
@@ -274,6 +282,11 @@ in-place-call-is-one session main image wait packet area =
     (λ l. (calledBy (l .answer), l .session, l .memory .main, l .memory .settings, l .area))
     (λ r. ap (λ answer. (answer, r .1, r .2, r .3, r .4)) (called-back (r .0)))
     (callOf session (memory main image) wait packet area)
+
+-- ---- numbers
+
+pub of-refusal-is-one : (why : Refusal) → OneAnswer (λ r. r ≡ refusalOf (refusalNumbered why))
+of-refusal-is-one why = as-said (refusalOf (refusalNumbered why))
 
 -- ---- rig_offline
 

@@ -15,7 +15,7 @@ use Rattle.sectors.proofs.ErasingLaws.{erase-all-keeps-length, erase-all-at, er
 use Rattle.decisions.specs.Unlocking.{alertReset}
 use Rattle.act.specs.Memory.{Board, board, sectorSize, settingsProtection}
 use Rattle.act.specs.Erasing.{allErased}
-use Rattle.act.specs.Showing.{versionAt}
+use Rattle.info.specs.Info.{versionAt}
 use Rattle.act.proofs.LockedLaws.{erased-versions-alike}
 use Rattle.sessions.specs.declared.Session.{Session}
 use Rattle.loader.specs.Answers.{CallTold, left}

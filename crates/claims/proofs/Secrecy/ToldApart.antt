@@ -15,7 +15,7 @@ use Rattle.decisions.specs.declared.Effect.{Effect}
 use Rattle.decisions.specs.declared.Judged.{Judged}
 use Rattle.decisions.proofs.EffectTests.{isPerformed}
 use Rattle.judge.specs.Hearing.{judgedOf}
-use Rattle.act.specs.Showing.{versionAt}
+use Rattle.info.specs.Info.{versionAt}
 use Rattle.act.proofs.LockedLaws.{told-alike}
 use Rattle.sending.specs.Answering.{hushed}
 use Rattle.loader.specs.Answers.{callTold}

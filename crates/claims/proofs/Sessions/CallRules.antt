@@ -16,7 +16,7 @@ use Rattle.wire.specs.Packet.{passwordIn}
 use Rattle.wire.specs.declared.Command.the-variants.{Unlock}
 use Rattle.wire.specs.Acknowledgement.{acknowledgement}
 use Rattle.wire.specs.Commands.{commandOf}
-use Rattle.wire.proofs.PacketLaws.{unlock-is-password}
+use Rattle.packets.proofs.PacketLaws.{unlock-is-password}
 use Rattle.standing.specs.declared.Phase.the-variants as phase
 use Rattle.standing.specs.Phases.{mostWrong}
 use Rattle.waits.specs.Waits.{passTime}

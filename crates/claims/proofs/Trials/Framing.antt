@@ -15,7 +15,7 @@ use Rattle.checksum.proofs.Laws.{checksum-of-fits}
 use Rattle.wire.specs.Codes.{lengthLimit, acknowledged, rate}
 use Rattle.wire.specs.Packet.{lengthIn, coreIn, codeIn}
 use Rattle.wire.specs.Acknowledgement.{acknowledgement}
-use Rattle.wire.proofs.AcknowledgementLaws.{framed-is-acknowledged}
+use Rattle.packets.proofs.AcknowledgementLaws.{framed-is-acknowledged}
 use Rattle.claims.specs.Trials.{packetOf}
 
 -- a packet has bytes

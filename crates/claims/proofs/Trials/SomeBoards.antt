@@ -15,7 +15,7 @@ use Rattle.layout.specs.Layout.{form1}
 use Rattle.settings.specs.Answer.{ReadTold, accepted}
 use Rattle.settings.specs.Reader.{readOf}
 use Rattle.decisions.specs.Unlocking.{alertReset}
-use Rattle.act.specs.Showing.{versionAt}
+use Rattle.info.specs.Info.{versionAt}
 use Rattle.regions.specs.Regions.{isMainSize}
 use Rattle.sessions.specs.Starting.{startRead, startOf}
 use Rattle.claims.specs.Held.{Held}

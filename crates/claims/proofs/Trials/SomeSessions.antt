@@ -11,7 +11,7 @@ use Rattle.octets.specs.Choice.{pick}
 use Rattle.octets.specs.Number.{bytesOf}
 use Rattle.wire.specs.Codes.{replyLimit, unlock, isOneOf}
 use Rattle.wire.specs.Packet.{coreIn}
-use Rattle.wire.proofs.PacketLaws.{unlock-is-password}
+use Rattle.packets.proofs.PacketLaws.{unlock-is-password}
 use Rattle.replies.specs.declared.Reply.{Reply}
 use Rattle.replies.specs.declared.Reply.the-variants.{Message}
 use Rattle.replies.specs.Replies.{replyBytes, Sent}

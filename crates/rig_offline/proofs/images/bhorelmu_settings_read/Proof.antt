@@ -1,9 +1,5 @@
 -- `rig_offline::images::bhorelmu_settings_read` meets its contract: what the reader answers, and the fields.
-use mathlib.Core.Path.{ap}
-use native.Mathlib.Omega.{arith}
 use borrow.Author.Needs.{needs}
-use Rattle.layout.specs.Layout.{form1}
-use Rattle.settings.proofs.ReaderLaws.{entry-there}
 use Rattle.rig_offline.proofs.images.bhorelmu_settings_read.Statement.{statement}
 use Rattle.rig_offline.proofs.images.bhorelmu_settings_read.Tie as tie
 
@@ -12,6 +8,6 @@ bhorelmu-settings-read-spec =
     tie.close
     (tie.spec
     (λ c κs. search needs)
-    (λ c κs. omega (arith, ap (λ told. told .entry) (c .before .read .ensures), entry-there form1 (c .before .before .before .before .args .image .now)))
+    (λ c κs. search needs)
     (λ c. search needs)
     (λ c. rw (c .before .before .store-fields .ensures, ← c .before .before .before .before .read .ensures)))

@@ -1,8 +1,8 @@
--- `sessions::starting::start_read` meets its contract: an answer that is accepted, or any other.
+-- `sessions::starting::start_read` meets its contract: an image that was accepted, or why it was refused.
 use borrow.Author.Needs.{needs}
 use Rattle.octets.specs.Choice.{pick}
+use Rattle.settings.proofs.ReaderLaws.{refuses}
 use Rattle.sessions.specs.Starting.{startRead}
-use Rattle.sessions.proofs.StartLaws.{not-accepted}
 use Rattle.sessions.proofs.starting.start_read.Statement.{statement}
 use Rattle.sessions.proofs.starting.start_read.Tie as tie
 
@@ -13,7 +13,7 @@ start-read-spec =
     (tie.spec
     (λ c. search needs)
     (λ c κs. search needs)
+    (λ c. search needs)
+    (λ c κs. search needs)
     (λ c. rw (c .before .enum-told .given .1, c .session-of .ensures))
-    (λ c κs. search needs)
-    (λ c κs. search needs)
-    (λ c. rw (not-accepted _ (c .before .before .match .keys2), c .refused .ensures, c .before .answer-of .ensures)))
+    (λ c. rw (c .before .before .answer .given .1, refuses _, c .refused .ensures)))

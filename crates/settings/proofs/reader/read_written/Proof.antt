@@ -2,7 +2,9 @@
 use borrow.Author.Needs.{needs}
 use borrow.Author.Tests.{eq-eqb, ne-eqb}
 use Rattle.octets.specs.Choice.{pick}
+use Rattle.layout.specs.Layout.{form1}
 use Rattle.settings.specs.Reader.{readWritten}
+use Rattle.settings.proofs.ReaderLaws.{differing-entry-there}
 use Rattle.settings.proofs.reader.read_written.Statement.{statement}
 use Rattle.settings.proofs.reader.read_written.Tie as tie
 
@@ -18,6 +20,7 @@ read-written-spec =
     (λ c κs. search needs)
     (λ c. rw (← c .before .before .before .before .checksum-differs .ensures, c .before .before .before .if1 .left, ← c .before .before .form-unknown .ensures, c .before .if2 .taken, c .refused2 .ensures))
     (λ c κs. search needs)
+    (λ c. let there = differing-entry-there form1 (c .before .before .before .before .before .before .before .args .image .now) in let found = c .before .differing-entry .ensures in search needs)
     (λ c κs. search needs)
     (λ c. rw (← c .before .before .before .before .before .before .checksum-differs .ensures, c .before .before .before .before .before .if1 .left, ← c .before .before .before .before .form-unknown .ensures, c .before .before .before .if2 .left, ← c .before .before .differing-entry .ensures, ne-eqb _ _ (c .before .if3 .taken), c .refused3 .ensures))
     (λ c κs. search needs)

@@ -1,10 +1,10 @@
--- `act::showing::version_at` meets its contract: the tests of the definition; the sum is of 64 bits.
+-- `info::version_at` meets its contract: the tests of the definition; the sum is of 64 bits.
 use borrow.Author.Tests.{eq-eqb, ne-eqb, le-leb, lt-leb}
 use Rattle.octets.specs.Choice.{pick}
-use Rattle.act.specs.Showing.{versionAt}
+use Rattle.info.specs.Info.{versionAt}
 use borrow.Author.Needs.{needs}
-use Rattle.act.proofs.showing.version_at.Statement.{statement}
-use Rattle.act.proofs.showing.version_at.Tie as tie
+use Rattle.info.proofs.version_at.Statement.{statement}
+use Rattle.info.proofs.version_at.Tie as tie
 
 pub version-at-spec : {M : Type 1} → statement M
 unfolding versionAt pick

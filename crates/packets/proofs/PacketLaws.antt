@@ -8,15 +8,15 @@ use lib.ListN.{length, take, drop}
 use lib.Seq.{drop-cons}
 use Rattle.octets.specs.Choice.{pick}
 use Rattle.octets.proofs.Parts.{length-part}
 use Rattle.wire.specs.declared.Guarded.the-variants as guarded
 use Rattle.wire.specs.declared.Command.{Command}
 use Rattle.wire.specs.declared.Command.the-variants as command
 use Rattle.wire.specs.Codes.{acknowledged, unlock}
 use Rattle.wire.specs.Packet.{coreIn, passwordIn, resetPasswordIn, dataIn}
 use Rattle.wire.specs.Acknowledgement.{isRate, acknowledgement}
 use Rattle.wire.specs.Commands.{commandOf}
-use Rattle.wire.proofs.AcknowledgementLaws.{acknowledged-is-framed, rate-ids}
-use Rattle.wire.proofs.CommandLaws.{Stands, read-stands}
+use Rattle.packets.proofs.AcknowledgementLaws.{acknowledged-is-framed, rate-ids}
+use Rattle.packets.proofs.CommandLaws.{Stands, read-stands}
 
 module _ (packet : List ℕ) (fine : acknowledgement packet ≡ acknowledged) where
   read-as : (command : Command) → commandOf packet ≡ command → Stands packet command

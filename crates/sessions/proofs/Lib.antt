@@ -1,2 +1,0 @@
--- StartLaws: what start tells beside its number.
-pub mod StartLaws
