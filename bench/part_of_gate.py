@@ -1,9 +1,7 @@
-"""What the gate costs for some crates and all that they stand on: `rt ci` over a copy of the repository that has these alone, three
-checks at a time as in the gate.
+"""What the gate costs for some crates and all that they stand on: `rt ci` over a copy of the repository that has these alone.
 
     python3 -B bench/part_of_gate.py show_settings
 """
-import os
 import pathlib
 import re
 import shutil
@@ -42,7 +40,7 @@ def main():
         lines = [line for name, (line, _) in crates.items() if name in wanted]
         pathlib.Path(place, "crates.txt").write_text("\n".join(lines) + "\n")
         began = time.time()
-        status = subprocess.run(["rt", "ci"], cwd=place, env={"RT_JOBS": "3", **os.environ}).returncode
+        status = subprocess.run(["rt", "ci"], cwd=place).returncode
         took = round(time.time() - began)
     print(f"{len(wanted)} crates, {took // 60} min {took % 60} s")
     return status
