@@ -5,7 +5,8 @@
 #include <stdint.h>
 
 /*
- * The device side of one boot loader session, on numbers and byte areas. docs/RECORD.md tells the same with an example.
+ * The device side of one boot loader session, on numbers and byte areas. docs/RECORD.md tells the same at length, and
+ * rig/example.c is a whole session.
  *
  * An area is a pointer and its size in bytes; all numbers in it are least significant byte first. A refused call changes
  * no byte of any area.
@@ -13,6 +14,7 @@
  * Duties of the caller:
  *  - each pointer has as many bytes behind it as its size says, and none is NULL where the size is above 0;
  *  - the areas of one call do not overlap;
+ *  - each call is lent the record that the call before it left, and no older copy;
  *  - the wait of a refused call is added to the next wait, for the record has not moved;
  *  - a reply is sent at the rate that the record had before the call, and the next one at the rate it has after it;
  *  - where an answer says so, the board burns its fuse, and says so to every later start.
@@ -54,7 +56,7 @@ enum bhorelmu_refusal_number {
     BHORELMU_FILLER_DIFFERS = 7,
     BHORELMU_VALUE_NOT_ALLOWED = 8,
     BHORELMU_REPLY_AREA_TOO_SMALL = 9,
-    BHORELMU_RECORD_NOT_VALID = 10
+    BHORELMU_RECORD_NOT_VALID = 10 /* also: a fields area of another size */
 };
 
 /* Begins a session; any fuse but 0 is set. Refusals 1 to 8, then 10 for a record area of another size. */
@@ -63,14 +65,16 @@ uint64_t bhorelmu_start(uint32_t fuse, const uint8_t *main_flash, size_t main_si
 
 /*
  * Lets `wait` milliseconds pass, then takes one packet, perhaps empty, and updates the record. Refusals 9, then 10 for
- * an area that is no record's. Bytes past the reply stay as lent.
+ * an area that is no record's, for a MAIN of another size than the record says, and for settings that are not 1,024
+ * bytes. Bytes past the reply stay as lent.
  */
 uint64_t bhorelmu_call(uint8_t *record, size_t record_size, uint8_t *main_flash, size_t main_size, uint8_t *settings,
                        size_t settings_size, uint32_t wait, const uint8_t *packet, size_t packet_size, uint8_t *reply,
                        size_t reply_size);
 
 /*
- * Takes the 74 bytes of fields out of a settings image (its bytes 52 to 125); a blank image gives the blank settings'.
+ * Takes the 74 bytes of fields out of a settings image (its bytes 52 to 125), or those of the blank settings out of a
+ * blank one.
  * Refusals 3 to 8, then 10 for a fields area of another size.
  */
 uint64_t bhorelmu_settings_read(const uint8_t *image, size_t image_size, uint8_t *fields, size_t fields_size);

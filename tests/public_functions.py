@@ -7,13 +7,19 @@ import sys
 FUNCTION = re.compile(r'^ *(pub )?(?:extern "C" )?fn (\w+)', re.M)
 
 
-def public_functions(source):
-    """Each public function's name, and its text up to the brace that opens its body."""
-    text = source.read_text()
-    for found in FUNCTION.finditer(text):
-        if found.group(1):
-            head = re.split(r"^ *\{ *$", text[found.start():], maxsplit=1, flags=re.M)[0]
-            yield found.group(2), head
+def libraries():
+    """The folders of the crates that others can call."""
+    return [path.parent.parent for path in sorted(pathlib.Path("crates").glob("*/src/lib.rt"))]
+
+
+def public_functions(library):
+    """Each public function of a library: its file, its name, and its text up to the brace that opens its body."""
+    for source in sorted(library.glob("src/*.rt")):
+        text = source.read_text()
+        for found in FUNCTION.finditer(text):
+            if found.group(1):
+                head = re.split(r"^ *\{ *$", text[found.start():], maxsplit=1, flags=re.M)[0]
+                yield source, found.group(2), head
 
 
 def broken_by(edit):
@@ -24,23 +30,22 @@ def broken_by(edit):
 
 def wrong_in(crate):
     breaks = [name for edit in crate.glob("must-fail/*.edit") for name in broken_by(edit)]
-    for source in sorted(crate.glob("src/*.rt")):
-        for name, head in public_functions(source):
-            promises = len(re.findall(r"^ *ensures ", head, re.M))
-            if promises != 1:
-                yield f"{source}: {name} has {promises} ensures, and 1 is wanted"
-            if re.search(r"^ *requires ", head, re.M):
-                yield f"{source}: {name} has a requires"
-            if breaks.count(name) < 2:
-                yield f"{source}: {name} has {breaks.count(name)} must-fail edits, and 2 are wanted"
+    for source, name, head in public_functions(crate):
+        promises = len(re.findall(r"^ *ensures ", head, re.M))
+        if promises != 1:
+            yield f"{source}: {name} has {promises} ensures, and 1 is wanted"
+        if re.search(r"^ *requires ", head, re.M):
+            yield f"{source}: {name} has a requires"
+        if breaks.count(name) < 2:
+            yield f"{source}: {name} has {breaks.count(name)} must-fail edits, and 2 are wanted"
 
 
 def main():
-    libraries = [path.parent.parent for path in sorted(pathlib.Path("crates").glob("*/src/lib.rt"))]
-    wrong = [line for crate in libraries for line in wrong_in(crate)]
+    crates = libraries()
+    wrong = [line for crate in crates for line in wrong_in(crate)]
     for line in wrong:
         print(line)
-    return 1 if wrong or not libraries else 0
+    return 1 if wrong or not crates else 0
 
 
 if __name__ == "__main__":

@@ -1,4 +1,4 @@
-# Sessions through the built runner. Each NAME.txt of tests/sessions is made into a script, and what the runner prints of it is
+# Sessions through the built runner. Each NAME.txt below tests/sessions is made into a script, and what the runner prints of it is
 # held to NAME.expected; a byte less or more breaks its form. Then scripts that break the form in one way each. Run after `rt ci`.
 set -u
 . tests/shared/complaints.sh
@@ -18,28 +18,28 @@ tools/is_current.sh target/bin/runner || rt check runner >"$work/log" 2>&1 || {
 }
 echo 'bad script' >"$work/refusal"
 
-for text in tests/sessions/*.txt; do
+for text in tests/sessions/*/*.txt; do
     name=$(basename "$text" .txt)
     script=$work/$name
     tools/make_script.py "$text" "$script" || complain "$name: no script"
     size=$(wc -c <"$script")
     seen=$((seen + 1))
-    prints "$name" "$script" "tests/sessions/$name.expected"
+    prints "$name" "$script" "${text%.txt}.expected"
     head -c $((size - 1)) "$script" >"$work/less"
     prints "$name without its last byte" "$work/less" "$work/refusal"
     { cat "$script" && printf '\0'; } >"$work/more"
     prints "$name and a byte" "$work/more" "$work/refusal"
 done
-[ "$seen" -eq "$(ls tests/sessions/*.expected | wc -l)" ] || complain "a session has no text, or none was played"
+[ "$seen" -eq "$(ls tests/sessions/*/*.expected | wc -l)" ] || complain "a session has no text, or none was played"
 
 # What document 01 prints in full is the crate's own input and output.
 cmp "$work/example" crates/runner/stdin || complain "the example is not the crate's input"
-cmp tests/sessions/example.expected crates/runner/stdout || complain "the example is not the crate's output"
+cmp tests/sessions/commands/example.expected crates/runner/stdout || complain "the example is not the crate's output"
 
 # A script that comes in pieces is read to its end.
 { head -c 11 "$work/example" && sleep 0.1 && tail -c +12 "$work/example"; } |
     tools/run_script.sh /dev/stdin >"$work/printed"
-cmp "$work/printed" tests/sessions/example.expected || complain "a script in pieces: not what is expected"
+cmp "$work/printed" tests/sessions/commands/example.expected || complain "a script in pieces: not what is expected"
 
 # FRONT (printf's escapes) and so many zeros break the form.
 breaks() { # WHAT FRONT ZEROS

@@ -1,4 +1,4 @@
-/* The sections stand in the order of document 01; what is in quotes is from it. */
+/* The sections stand in the order of document 01. */
 
 #include "model.h"
 
@@ -235,7 +235,7 @@ static void encode(const struct loader *loader, uint8_t *record)
     put32(record + AT_IDLE, loader->idle);
 }
 
-/* Orders (b) and (c). False while still asleep, when the packet is dropped. */
+/* Rules (b) and (c). False while still asleep, when the packet is dropped. */
 static bool pass_time(struct loader *loader, uint32_t wait)
 {
     if (loader->sleep > wait) {

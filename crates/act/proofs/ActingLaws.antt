@@ -20,7 +20,7 @@ use Rattle.regions.specs.Regions.{mspm0Part, placeOf}
 use Rattle.regions.specs.Memory.{Memory}
 use Rattle.sectors.proofs.ErasingLaws.{erase-keeps-length, erase-all-keeps-length}
 use Rattle.flash.proofs.ProgrammingLaws.{program-keeps-length}
-use Rattle.act.specs.Memory.{Acted, Board}
+use Rattle.act.specs.Board.{Acted, Board}
 use Rattle.act.specs.Erasing.{rangeErase, rangeEraseIn, allErased, resetAnswer, factoryReset}
 use Rattle.act.specs.Programming.{isOutside, isAligned, programmed, programAt}
 use Rattle.act.specs.Acting.{performed, actOf}

@@ -20,7 +20,7 @@ use Rattle.decisions.specs.declared.Effect.{Effect}
 use Rattle.decisions.specs.declared.Effect.the-variants.{Say, TellInfo, Strike, Perform}
 use Rattle.decisions.proofs.EffectTests.{isPerformed}
 use Rattle.info.specs.Info.{versionSize, versionAt}
-use Rattle.act.specs.Memory.{Board, sectorSize}
+use Rattle.act.specs.Board.{Board, sectorSize}
 use Rattle.act.specs.Erasing.{allErased}
 use Rattle.act.specs.Acting.{actOf}
 

@@ -10,7 +10,7 @@ use Rattle.decisions.specs.declared.Effect.{Effect}
 use Rattle.decisions.specs.declared.Effect.the-variants.{Say, TellInfo, Strike, Perform}
 use Rattle.regions.specs.Memory.{Memory}
 use Rattle.info.specs.Info.{infoReply}
-use Rattle.act.specs.Memory.{Acted, acted, tells, Board}
+use Rattle.act.specs.Board.{Acted, acted, tells, Board}
 use Rattle.act.specs.Erasing.{rangeErase, massErase, factoryReset, struck}
 use Rattle.act.specs.Programming.{program}
 use Rattle.act.specs.Showing.{readBack, verify}

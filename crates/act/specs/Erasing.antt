@@ -9,7 +9,7 @@ use Rattle.regions.specs.declared.Region.the-variants.{Main, Settings, Outside}
 use Rattle.regions.specs.Regions.{mspm0Part, placeOf}
 use Rattle.regions.specs.Memory.{Memory, memory}
 use Rattle.sectors.specs.Erasing.{eraseOf, eraseAllOf}
-use Rattle.act.specs.Memory.{Acted, tells, Board, sectorSize, settingsProtection}
+use Rattle.act.specs.Board.{Acted, tells, Board, sectorSize, settingsProtection}
 
 -- "Every sector from start's to end's becomes 0xFF; 00."
 abbrev pub rangeErased : Board → ℕ → ℕ → Memory → Acted
@@ -34,7 +34,7 @@ abbrev pub massErase : Board → Memory → Acted
 massErase board before =
     tells codes.success (memory (eraseAllOf sectorSize (board .protection) (before .main)) (before .settings))
 
--- "MAIN and settings become 0xFF"; "Protected places keep their bytes in every erase and program"
+-- "MAIN and settings become 0xFF"; "Protected places keep their bytes in every erase and program, and 00 is still sent."
 abbrev pub allErased : Board → Memory → Memory
 allErased board before =
     memory (eraseAllOf sectorSize (board .protection) (before .main))
@@ -51,13 +51,14 @@ modeWithPassword = 2
 unfoldable pub lacksResetPassword : Bool → Bool → Bool
 lacksResetPassword with right = pick with (not right) true
 
--- "0x30 Factory reset, protected, L 1 or 17: mode off 07; mode 2 with no or wrong reset password 08; else MAIN and settings become 0xFF; 00."
+-- "0x30 Factory reset, protected, L 1 or 17: mode off 07; mode 2 with no or wrong reset password 08", else 00
 unfoldable pub resetAnswer : ℕ → Bool → Bool → ℕ
 resetAnswer mode with right =
     pick (eqb mode modeOff) codes.resetOff
     (pick (eqb mode modeWithPassword) (pick (lacksResetPassword with right) codes.resetPasswordWrong codes.success)
     codes.success)
 
+-- "else MAIN and settings become 0xFF; 00."
 unfoldable pub factoryReset : Board → Bool → Bool → Memory → Acted
 factoryReset board with right before =
     pick (eqb (resetAnswer (board .shown .«reset_mode») with right) codes.success)

@@ -11,7 +11,7 @@ use Rattle.regions.specs.declared.Place.{Place}
 use Rattle.regions.specs.Regions.{mspm0Part, placeOf}
 use Rattle.regions.specs.Memory.{Memory, memory}
 use Rattle.flash.specs.Programming.{programOf}
-use Rattle.act.specs.Memory.{Acted, tells, Board, sectorSize, settingsProtection}
+use Rattle.act.specs.Board.{Acted, tells, Board, sectorSize, settingsProtection}
 
 -- "a multiple of 8"
 abbrev pub wordSize : ℕ
@@ -36,13 +36,14 @@ isOutside Settings = false
 isOutside Outside = true
 
 -- "0x20 Program, protected, L from 6: not wholly in one region: 05. Address or data size not a multiple of 8: 0A. Each byte becomes
--- old AND new; 00." The place is that of the range.
+-- old AND new; 00."
 unfoldable pub programAt : Board → ℕ → ℕ → List ℕ → Memory → Place → Acted
 programAt board address size bytes before place =
     pick (isOutside (place .region)) (tells codes.invalidRange before)
     (pick (isAligned address size) (tells codes.success (programmed board (place .offset) bytes before (place .region)))
     (tells codes.notAligned before))
 
+-- the place is that of so many bytes from the address on
 abbrev pub program : Board → ℕ → ℕ → List ℕ → Memory → Acted
 program board address size bytes before =
     programAt board address size bytes before (placeOf mspm0Part (board .mainSize) address size)

@@ -11,7 +11,7 @@ use Rattle.regions.specs.declared.Region.{Region}
 use Rattle.regions.specs.declared.Place.{Place}
 use Rattle.regions.specs.Regions.{mspm0Part, placeOf}
 use Rattle.regions.specs.Memory.{Memory, bytesAt}
-use Rattle.act.specs.Memory.{Board}
+use Rattle.act.specs.Board.{Board}
 use Rattle.act.specs.Programming.{isOutside}
 
 -- 01, Settings image, kind 3: "readout (two bytes, on only at 0xAABB)"
@@ -27,10 +27,12 @@ readBackIn readout size region =
     (pick (isOutside region) (Message codes.invalidRange) Bytes)))
     (Message codes.readoutOff)
 
+-- the region is that of so many bytes from the address on
 abbrev pub readBack : Board → ℕ → ℕ → Reply
 readBack board address size =
     readBackIn (board .shown .readout) size (placeOf mspm0Part (board .mainSize) address size .region)
 
+-- "size under 1,024", "size above 65,536"
 abbrev pub verifyLeast : ℕ
 verifyLeast = 1024
 
@@ -45,5 +47,6 @@ verifyAt size memory place =
     (pick (isOutside (place .region)) (Message codes.invalidRange)
     (Sum (checksumOf (bytesAt place size memory)))))
 
+-- the place is that of so many bytes from the address on
 abbrev pub verify : Board → ℕ → ℕ → Memory → Reply
 verify board address size memory = verifyAt size memory (placeOf mspm0Part (board .mainSize) address size)

@@ -1,10 +1,10 @@
 // What was decided is done.
 ghost use mathlib.Core.Path.{_≡_};
 ghost use Rattle.regions.specs.Memory.{memory};
-ghost use Rattle.act.specs.Memory.{acted, board};
+ghost use Rattle.act.specs.Board.{acted, board};
 ghost use Rattle.act.specs.Acting.{performed, actOf};
 use crate::erasing;
-use crate::memory::SECTOR_SIZE;
+use crate::part::SECTOR_SIZE;
 use crate::programming;
 use crate::showing;
 use decisions::Effect;

@@ -5,10 +5,10 @@ ghost use Prim.Native.Nat.{ℕ};
 ghost use Rattle.sectors.specs.Erasing.{eraseAllOf};
 ghost use Rattle.values.specs.declared.Shown.{Shown};
 ghost use Rattle.regions.specs.Memory.{memory};
-ghost use Rattle.act.specs.Memory.{acted, board, sectorSize};
+ghost use Rattle.act.specs.Board.{acted, board, sectorSize};
 ghost use Rattle.act.specs.Erasing.{rangeErase, resetAnswer, factoryReset};
-use crate::memory;
-use crate::memory::SECTOR_SIZE;
+use crate::part;
+use crate::part::SECTOR_SIZE;
 use regions::Region;
 use replies::Reply;
 use values::Shown;
@@ -32,7 +32,7 @@ pub(crate) fn range_erase(
         return Reply::Message(codes::INVALID_RANGE);
     }
     let count = (end - start) as u64 + 1;
-    let place = memory::locate(main_size, start, count);
+    let place = part::locate(main_size, start, count);
     let region = place.region;
     let Region::Main = region else {
         return Reply::Message(codes::INVALID_RANGE);

@@ -1,7 +1,7 @@
 // Acting: what was judged is done to memory.
 mod acting;
 mod erasing;
-mod memory;
+mod part;
 mod programming;
 mod showing;
 

@@ -7,10 +7,10 @@ ghost use Rattle.flash.specs.Programming.{programOf};
 ghost use Rattle.wire.specs.Codes.{success, notAligned};
 ghost use Rattle.wire.specs.Packet.{dataIn};
 ghost use Rattle.regions.specs.Memory.{Memory, memory};
-ghost use Rattle.act.specs.Memory.{acted, tells, board, sectorSize};
+ghost use Rattle.act.specs.Board.{acted, tells, board, sectorSize};
 ghost use Rattle.act.specs.Programming.{isAligned, program};
-use crate::memory;
-use crate::memory::SECTOR_SIZE;
+use crate::part;
+use crate::part::SECTOR_SIZE;
 use regions::Region;
 use replies::Reply;
 use values::Shown;
@@ -59,7 +59,7 @@ pub(crate) fn program(
 ) -> Reply
     ensures { λ r. ⌜ acted r (memory (now (main .exit)) (now (image .exit))) ≡ program (board «main_size» shown (now (protection .entry))) address size (dataIn size (now (packet .entry))) (memory (now (main .entry)) (now (image .entry))) ⌝ }
 {
-    let place = memory::locate(main_size, address, size as u64);
+    let place = part::locate(main_size, address, size as u64);
     let region = place.region;
     match region {
         Region::Main => program_region(protection, place.offset, address, size, packet, main),

@@ -3,7 +3,7 @@ ghost use mathlib.Core.Path.{_≡_};
 ghost use Rattle.regions.specs.Regions.{mspm0Part, placeOf};
 ghost use Rattle.regions.specs.Memory.{memory};
 ghost use Rattle.act.specs.Showing.{readBackIn, verifyAt};
-use crate::memory;
+use crate::part;
 use regions::Region;
 use replies::Reply;
 use wire::codes;
@@ -29,7 +29,7 @@ pub(crate) fn read_back(readout: u16, main_size: u32, address: u32, size: u32) -
     if READ_BACK_MOST < size {
         return Reply::Message(codes::INVALID_RANGE);
     }
-    let place = memory::locate(main_size, address, size as u64);
+    let place = part::locate(main_size, address, size as u64);
     let region = place.region;
     if let Region::Outside = region {
         return Reply::Message(codes::INVALID_RANGE);
@@ -53,7 +53,7 @@ pub(crate) fn verify<'a>(
     if VERIFY_MOST < size {
         return Reply::Message(codes::INVALID_RANGE);
     }
-    let place = memory::locate(main_size, address, size as u64);
+    let place = part::locate(main_size, address, size as u64);
     let region = place.region;
     if let Region::Outside = region {
         return Reply::Message(codes::INVALID_RANGE);

@@ -1,5 +1,5 @@
-// Long slices, a word of four bytes a turn. Four sums, the lanes, wait in a queue. The first of them takes the next word in
-// and goes on over 128 bits at once, so that it goes in again four words later, when the others have had theirs. No turn
+// Long slices, two words of four bytes a turn. Four sums, the lanes, wait in a queue. The first of them takes the next word in
+// and goes on over 128 bits at once, so that it goes in again four words later, when the others have had theirs. No word
 // needs what the three before it give, and the processor works on four of them at a time.
 ghost use mathlib.Core.Path.{_≡_};
 ghost use mathlib.Core.List.{[], _∷_};

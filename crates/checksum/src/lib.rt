@@ -17,7 +17,7 @@ pub fn checksum_of(bytes: &[u8]) -> u32
     checksum_from(0xFFFFFFFF, bytes)
 }
 
-// The checksum, gone on with over the bytes from an earlier value.
+// The checksum of the bytes, continued from an earlier value.
 pub fn checksum_from(earlier: u32, bytes: &[u8]) -> u32
     ensures { λ r. ⌜ r ≡ checksumFrom earlier (now (bytes .entry)) ⌝ }
 {

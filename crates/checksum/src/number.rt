@@ -1,10 +1,9 @@
-// Bytes as a number, least significant byte first.
+// Bytes as a number, least significant byte first, where all of them are there: those of `octets` look for the end each time.
 ghost use mathlib.Core.Path.{_≡_};
 ghost use Prim.Native.Nat.{_+_, _≤_, _<_};
 ghost use lib.ListN.{length, getD};
 ghost use Rattle.octets.specs.Number.{numberAt};
 
-// One byte.
 pub(crate) fn byte_at(bytes: &[u8], at: usize) -> u32
     requires { ⌜ at < length (now bytes) ⌝ }
     ensures { λ r. ⌜ r ≡ getD (now (bytes .entry)) at 0 ⌝ }
@@ -12,7 +11,6 @@ pub(crate) fn byte_at(bytes: &[u8], at: usize) -> u32
     bytes[at] as u32
 }
 
-// Two bytes.
 fn pair_at(bytes: &[u8], at: usize) -> u32
     requires { ⌜ at + 2 ≤ length (now bytes) ⌝ }
     ensures { λ r. ⌜ r ≡ numberAt at 2 (now (bytes .entry)) ⌝ }
@@ -20,7 +18,6 @@ fn pair_at(bytes: &[u8], at: usize) -> u32
     byte_at(bytes, at) + 256 * byte_at(bytes, at + 1)
 }
 
-// Four bytes.
 pub(crate) fn word_at(bytes: &[u8], at: usize) -> u32
     requires { ⌜ at + 4 ≤ length (now bytes) ⌝ }
     ensures { λ r. ⌜ r ≡ numberAt at 4 (now (bytes .entry)) ⌝ }

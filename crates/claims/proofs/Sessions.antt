@@ -1,6 +1,8 @@
 -- What holds of every start, call, record and script.
 -- CallRules: what holds of every start and of every call.
 pub mod CallRules
+-- NumberRule: every call has an answer, and which numbers of 01 it can have.
+pub mod NumberRule
 -- HeldSessions: a valid session whose settings were read of bytes can be held.
 pub mod HeldSessions
 -- RecordRule: a session record is encoded and decoded by one rule.

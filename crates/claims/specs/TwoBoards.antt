@@ -10,7 +10,6 @@ use Rattle.octets.specs.Choice.{pick}
 use Rattle.wire.specs.Codes.{acknowledged, unlock, replyLimit}
 use Rattle.wire.specs.Packet.{coreIn}
 use Rattle.wire.specs.Acknowledgement.{acknowledgement}
-use Rattle.standing.specs.declared.Standing.{Standing}
 use Rattle.standing.specs.Phases.{mostWrong, isUnlocked}
 use Rattle.values.specs.declared.Settings.{Settings}
 use Rattle.layout.specs.Layout.{form1}
@@ -18,7 +17,7 @@ use Rattle.settings.specs.Reader.{readOf}
 use Rattle.regions.specs.Memory.{Memory}
 use Rattle.sectors.specs.Protection.{mayChange}
 use Rattle.decisions.specs.Unlocking.{alertReset}
-use Rattle.act.specs.Memory.{sectorSize, settingsProtection}
+use Rattle.act.specs.Board.{sectorSize, settingsProtection}
 use Rattle.info.specs.Info.{versionAt}
 use Rattle.sessions.specs.declared.Session.{Session}
 use Rattle.loader.specs.Answers.{Left}
@@ -91,23 +90,21 @@ abbrev pub replied : Left → List ℕ
 replied left = take (left .answer .size) (left .area)
 
 -- "once three wrong passwords were counted, where the alert setting is "reset""
-unfoldable pub isStruck : ℕ → Standing → Bool
-isStruck alert standing = pick (eqb alert alertReset) (eqb (standing .wrong) mostWrong) false
+unfoldable pub isStruck : ℕ → ℕ → Bool
+isStruck alert wrong = pick (eqb alert alertReset) (eqb wrong mostWrong) false
 
--- "a flash byte is 0xFF once .. and the place is unprotected; else it is as at the start"
-abbrev pub AsClaimed : Bool → List ℕ → List ℕ → List ℕ → Type 0
-AsClaimed struck protection atStart now =
+-- "a flash byte is 0xFF once .. and the place is unprotected; else it is as at the start", for sectors of any size
+abbrev pub AsClaimed : ℕ → Bool → List ℕ → List ℕ → List ℕ → Type 0
+AsClaimed sectorSize struck protection atStart now =
     (place : ℕ) → place < length atStart
     → getD now place 0 ≡ pick (pick struck (mayChange sectorSize protection place) false) 0xFF (getD atStart place 0)
 
-abbrev pub struckThen : Images → Left → Bool
-struckThen board left = isStruck (settingsOf board .shown .alert) (left .session .standing)
-
-pub record Flash (board : Images) (left : Left) : Type 0 where
-  pub mainSize : length (left .memory .main) ≡ length (board .main)
-  pub main : AsClaimed (struckThen board left) (settingsOf board .protection) (board .main) (left .memory .main)
-  pub settingsSize : length (left .memory .settings) ≡ length (board .settings)
-  pub settings : AsClaimed (struckThen board left) (settingsProtection (settingsOf board .shown)) (board .settings) (left .memory .settings)
+-- both images of a board, after so many wrong passwords
+pub record Flash (board : Images) (wrong : ℕ) (now : Memory) : Type 0 where
+  pub mainSize : length (now .main) ≡ length (board .main)
+  pub main : AsClaimed sectorSize (isStruck (settingsOf board .shown .alert) wrong) (settingsOf board .protection) (board .main) (now .main)
+  pub settingsSize : length (now .settings) ≡ length (board .settings)
+  pub settings : AsClaimed sectorSize (isStruck (settingsOf board .shown .alert) wrong) (settingsProtection (settingsOf board .shown)) (board .settings) (now .settings)
 
 -- "cannot be told apart": all that two calls show at the port, how the sessions stand then, and what is left of flash
 pub record Alike (one other : Images) (oneLeft otherLeft : Left) : Type 0 where
@@ -121,8 +118,8 @@ pub record Alike (one other : Images) (oneLeft otherLeft : Left) : Type 0 where
   -- "neither unlocks"
   pub locked : isUnlocked (oneLeft .session .standing .phase) ≡ false
   -- what they can change
-  pub oneFlash : Flash one oneLeft
-  pub otherFlash : Flash other otherLeft
+  pub oneFlash : Flash one (oneLeft .session .standing .wrong) (oneLeft .memory)
+  pub otherFlash : Flash other (otherLeft .session .standing .wrong) (otherLeft .memory)
 
 -- The claim over any finite list of calls, at every point of it. Who chooses each packet by the answers so far is not left out: the
 -- answers of both boards are the same, and so are the packets that are chosen.

@@ -2,20 +2,14 @@
 -- `startFromC` and `callFromC` are what the functions that C calls are proved to do.
 use Prim.Native.Nat.{ℕ, _%_, _<_}
 use mathlib.Core.Path.{_≡_}
-use mathlib.Core.Bool.{Bool, false}
 use mathlib.Core.List.{List, [], _∷_}
-use lib.Dec.{eqb}
 use lib.ListN.{length, getD, take}
-use Rattle.octets.specs.Choice.{pick}
-use Rattle.standing.specs.Phases.{mostWrong}
 use Rattle.regions.specs.Memory.{Memory}
-use Rattle.decisions.specs.Unlocking.{alertReset}
-use Rattle.act.specs.Memory.{settingsProtection}
 use Rattle.numbers.specs.OneNumber.{refusalUnit, burnUnit}
 use Rattle.numbers.specs.Stored.{Stored}
 use Rattle.rig.specs.Records.{recordSize, fieldsAt}
 use Rattle.rig.specs.Boundary.{startFromC, Called, callFromC}
-use Rattle.claims.specs.TwoBoards.{Images, settingsOf, Sending, WithoutPassword, AsClaimed}
+use Rattle.claims.specs.TwoBoards.{Images, Sending, WithoutPassword, Flash}
 
 -- ---- the boards
 
@@ -60,19 +54,6 @@ lockIn area = getD area 1 0
 abbrev pub wrongIn : List ℕ → ℕ
 wrongIn area = getD area 2 0
 
--- "once three wrong passwords were counted, where the alert setting is "reset""
-unfoldable pub isStruckFromC : ℕ → List ℕ → Bool
-isStruckFromC alert area = pick (eqb alert alertReset) (eqb (wrongIn area) mostWrong) false
-
-abbrev pub struckFromC : Images → Called → Bool
-struckFromC board left = isStruckFromC (settingsOf board .shown .alert) (left .area)
-
-pub record FlashFromC (board : Images) (left : Called) : Type 0 where
-  pub mainSize : length (left .memory .main) ≡ length (board .main)
-  pub main : AsClaimed (struckFromC board left) (settingsOf board .protection) (board .main) (left .memory .main)
-  pub settingsSize : length (left .memory .settings) ≡ length (board .settings)
-  pub settings : AsClaimed (struckFromC board left) (settingsProtection (settingsOf board .shown)) (board .settings) (left .memory .settings)
-
 -- "cannot be told apart": all that two calls show, and all that they change
 pub record AlikeFromC (one other : Images) (oneLeft otherLeft : Called) : Type 0 where
   -- no call is refused: the top byte of the number is 0
@@ -85,8 +66,8 @@ pub record AlikeFromC (one other : Images) (oneLeft otherLeft : Called) : Type 0
   -- "neither unlocks"
   pub locked : lockIn (oneLeft .area) ≡ 0
   -- what they can change
-  pub oneFlash : FlashFromC one oneLeft
-  pub otherFlash : FlashFromC other otherLeft
+  pub oneFlash : Flash one (wrongIn (oneLeft .area)) (oneLeft .memory)
+  pub otherFlash : Flash other (wrongIn (otherLeft .area)) (otherLeft .memory)
 
 -- at every point of any finite list of calls
 abbrev pub AlikeCallsFromC : Images → Images → RunningFromC → RunningFromC → List Sending → Type 0

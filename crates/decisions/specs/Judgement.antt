@@ -6,7 +6,7 @@ use Rattle.decisions.specs.declared.Effect.{Effect}
 use Rattle.decisions.specs.declared.Effect.the-variants.{Say}
 use Rattle.decisions.specs.declared.Judged.{Judged}
 
--- no fuse is burnt but by the alert that disables
+-- 01, Commands, 0x21 Unlock: "the answer of that call, and of no other, tells the board to burn its fuse": nothing that is decided so burns it
 abbrev pub judged : Standing → Effect → Judged
 judged standing effect = record { standing = standing; effect = effect; burn = false }
 

@@ -8,7 +8,7 @@ use Rattle.replies.specs.declared.Reply.the-variants.{Message}
 use Rattle.standing.specs.declared.Phase.{Phase}
 use Rattle.standing.specs.declared.Phase.the-variants.{Command, Disabled}
 use Rattle.standing.specs.declared.Standing.{Standing}
-use Rattle.standing.specs.Phases.{firstRate, mostSleep, mostWrong}
+use Rattle.standing.specs.Phases.{rateIdAtStart, mostSleep, mostWrong}
 use Rattle.decisions.specs.declared.Effect.the-variants.{Say, Strike}
 use Rattle.decisions.specs.declared.Judged.{Judged}
 use Rattle.decisions.specs.Judgement.{judged, says}
@@ -21,10 +21,11 @@ afterRight standing = record { phase = Command true 0; idle = standing .idle; wr
 unfoldable pub countedUp : ℕ → ℕ
 countedUp wrong = pick (ltb wrong mostWrong) (wrong + 1) mostWrong
 
--- "Wrong: locked, rate id 2, sleep 2,000, count up by one to at most 3."
+-- "Wrong: .. rate id 2, .. count up by one to at most 3."
 abbrev pub afterWrong : Standing → Phase → Standing
-afterWrong standing phase = record { phase = phase; idle = standing .idle; wrong = countedUp (standing .wrong); rate = firstRate }
+afterWrong standing phase = record { phase = phase; idle = standing .idle; wrong = countedUp (standing .wrong); rate = rateIdAtStart }
 
+-- "Wrong: locked, .. sleep 2,000": as long as a session may sleep
 abbrev pub asleep : Phase
 asleep = Command false mostSleep
 

@@ -4,10 +4,10 @@ ghost use Rattle.decisions.specs.Unlocking.{countedUp, afterWrong, alert
 use crate::Effect;
 use crate::Judged;
 use replies::Reply;
-use standing::FIRST_RATE;
 use standing::MOST_SLEEP;
 use standing::MOST_WRONG;
 use standing::Phase;
+use standing::RATE_ID_AT_START;
 use standing::Standing;
 use wire::codes;
 
@@ -40,7 +40,7 @@ fn judged_wrong(standing: Standing, phase: Phase, effect: Effect, burn: bool) ->
         phase,
         idle: standing.idle,
         wrong: counted_up(standing.wrong),
-        rate: FIRST_RATE,
+        rate: RATE_ID_AT_START,
     };
     Judged {
         standing: after,

@@ -1,4 +1,4 @@
--- What the bodies of a settings image are, in reading order; each definition names its sentence of document 01.
+-- What the bodies of a settings image are, in reading order; each definition of a rule names its sentence of document 01.
 -- Bodies: the bodies of some settings, and what the bodies of an image say.
 pub mod Bodies
 -- Fields: the bodies by themselves.

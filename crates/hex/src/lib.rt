@@ -25,6 +25,7 @@ fn text_of(byte: u8) -> [u8; 3]
 pub fn put_hex(area: &mut [u8], at: usize, bytes: &[u8])
     ensures { λ _. ⌜ now (area .exit) ≡ sets (now (area .entry)) at (hexOf (now (bytes .entry))) ⌝ }
 {
+    // One more than fit whole: the last is stored as far as there is room.
     let count = octets::least(bytes.len(), octets::room(area.len(), at) / 3 + 1);
     let mut i = 0;
     while i < count {

@@ -4,7 +4,7 @@ use mathlib.Core.Bool.{Bool}
 use mathlib.Core.List.{List}
 use lib.Dec.{eqb}
 use Rattle.octets.specs.Choice.{pick}
-use Rattle.settings.specs.Answer.{Numbered}
+use Rattle.settings.specs.Answers.{Numbered}
 use Rattle.sessions.specs.declared.Session.{Session}
 use Rattle.sessions.specs.Answers.{StartTold}
 use Rattle.sessions.specs.Starting.{startOf}

@@ -18,7 +18,7 @@ fn start_or_keep(session: Session, fuse: bool, main: &[u8], image: &[u8]) -> Sta
     Started { answer, session }
 }
 
-// The loader's start; the record becomes the session. A refused start leaves it as it was.
+// The start of `sessions`; the record becomes the session. A refused start leaves it as it was.
 pub fn start(session: &mut Session, fuse: bool, main: &[u8], image: &[u8]) -> StartAnswer
     ensures { λ r. ⌜ startLeft (startNumbered r) (now (session .exit)) ≡ startInPlace (now (session .entry)) fuse (now (main .entry)) (now (image .entry)) ⌝ }
 {

@@ -51,7 +51,7 @@ heardInCommand standing alert unlocked packet right =
     (obeyed (stirred standing (commandOf packet)) alert unlocked right (commandOf packet))
     (says standing (Acknowledged (acknowledgement packet)))
 
--- a packet that is heard, by the phase; (a) "in standby, ended and disabled: no reply, no change"
+-- a packet that is heard, by the phase; standby, ended and disabled hear none, by (a)
 abbrev pub heardIn : Standing → ℕ → List ℕ → Bool → Phase → Judged
 heardIn standing alert packet right phase.Detect = heardInDetect standing packet
 heardIn standing alert packet right (phase.Command unlocked sleep) = heardInCommand standing alert unlocked packet right

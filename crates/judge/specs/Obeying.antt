@@ -1,5 +1,5 @@
 -- 01, Commands (004): a command of the command phase, whose packet was acknowledged by 0x00. What is said here of the commands that
--- "never get a core reply" is left unsaid where the reply is sent.
+-- "never get a core reply" is dropped where the reply is sent (`hushed` of `sending`).
 use Prim.Native.Nat.{ℕ}
 use mathlib.Core.Bool.{Bool}
 use Rattle.octets.specs.Choice.{pick}
@@ -15,7 +15,7 @@ use Rattle.decisions.specs.declared.Judged.{Judged}
 use Rattle.decisions.specs.Judgement.{judged, says}
 use Rattle.decisions.specs.Unlocking.{tried}
 
--- "0x52 Rate: the id holds after the reply."
+-- "0x52 Rate: the id holds after the reply." The next session has it; who sends this call's reply sends it at the rate before.
 abbrev pub withRate : Standing → ℕ → Standing
 withRate standing id = record { phase = standing .phase; idle = standing .idle; wrong = standing .wrong; rate = id }
 

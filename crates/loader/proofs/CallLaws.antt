@@ -13,7 +13,7 @@ use Rattle.sending.proofs.AnsweringLaws.{answer-fits}
 use Rattle.sessions.specs.declared.Session.{Session}
 use Rattle.loader.specs.Records.{isRecord}
 use Rattle.loader.specs.Answers.{Left}
-use Rattle.loader.specs.Calling.{standsThen, judgement, callRefused, serveOf, callOf}
+use Rattle.loader.specs.Calling.{standsThen, callRefused, serveOf, callOf}
 
 module _ (session : Session) (before : Memory) (wait : ℕ) (packet area : List ℕ) where
   abbrev after : Left
@@ -39,7 +39,7 @@ module _ (session : Session) (before : Memory) (wait : ℕ) (packet area : List 
   unfolding serveOf
   call-size-fits =
       every-call (λ left. left .answer .size ≤ 1729) (λ number. omega arith)
-      (answer-fits (judgement session wait packet .effect) _ packet (session .«main_size») _ area)
+      (answer-fits _ _ packet (session .«main_size») _ area)
 
   -- 01, Phases and waits: "Settings are taken at start": a call changes only how the session stands
   pub call-keeps-settings : after .session ≡ standsThen session (after .session .standing)

@@ -22,7 +22,7 @@ use Rattle.regions.specs.Memory.{Memory}
 use Rattle.regions.proofs.RegionLaws.{most-asked}
 use Rattle.decisions.specs.declared.Effect.{Effect}
 use Rattle.decisions.specs.declared.Effect.the-variants.{Say, TellInfo, Strike, Perform}
-use Rattle.act.specs.Memory.{Board}
+use Rattle.act.specs.Board.{Board}
 use Rattle.act.specs.Programming.{isOutside}
 use Rattle.act.specs.Showing.{readoutOn, readBackIn}
 use Rattle.act.specs.Acting.{actOf}

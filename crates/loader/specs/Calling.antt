@@ -13,7 +13,7 @@ use Rattle.regions.specs.Memory.{Memory}
 use Rattle.decisions.specs.declared.Effect.{Effect}
 use Rattle.decisions.specs.declared.Judged.{Judged}
 use Rattle.judge.specs.Hearing.{judgedOf}
-use Rattle.act.specs.Memory.{Acted, Board, board}
+use Rattle.act.specs.Board.{Acted, Board, board}
 use Rattle.act.specs.Acting.{actOf}
 use Rattle.sending.specs.Answering.{answerOf}
 use Rattle.sessions.specs.declared.Session.{Session}
@@ -21,7 +21,8 @@ use Rattle.loader.specs.Records.{isRecord}
 use Rattle.alike.specs.Alike.{areSame}
 use Rattle.loader.specs.Answers.{callTold, Left, left}
 
--- how the session stands then; its MAIN size and its settings stay: "The session keeps its password"
+-- how the session stands then; its MAIN size and its settings stay: "The session keeps its password", and "later writes to the settings
+-- flash count from the next start"
 abbrev pub standsThen : Session → Standing → Session
 standsThen session standing = record { standing = standing; «main_size» = session .«main_size»; settings = session .settings }
 
@@ -39,7 +40,7 @@ abbrev pub deed : Session → List ℕ → Memory → Effect → Acted
 deed session packet before effect =
     actOf (boardOf session) (areSame (session .settings .«reset_password») (resetPasswordIn packet)) packet before effect
 
--- all that a call leaves that is not refused: "the answer of that call, and of no other, tells the board to burn its fuse"
+-- all that a call leaves where it is not refused: "the answer of that call, and of no other, tells the board to burn its fuse"
 abbrev pub served : Session → Judged → Acted → Sent → Left
 served session judged acted sent =
     left (callTold 0 (sent .size) (judged .burn)) (standsThen session (judged .standing)) (acted .memory) (sent .area)

@@ -1,7 +1,7 @@
 // One call of a session: check the record, judge the packet, act on memory, answer.
 ghost use mathlib.Core.Path.{_≡_};
 ghost use Rattle.regions.specs.Memory.{memory};
-ghost use Rattle.act.specs.Memory.{acted};
+ghost use Rattle.act.specs.Board.{acted};
 ghost use Rattle.loader.specs.Answers.{callTold, callNumbered, callLeft};
 ghost use Rattle.loader.specs.Calling.{standsThen, judgement, deed, serveOf, callOf};
 use crate::CallAnswer;
@@ -54,7 +54,7 @@ fn act_on(
     )
 }
 
-// What a call answers that is not refused, and the session for the next call: it keeps its MAIN size and its settings.
+// What a call answers where it is not refused, and the session for the next call: it keeps its MAIN size and its settings.
 fn served(session: Session, judged: Judged, size: usize) -> Called
     ensures { λ r. ⌜ (callNumbered (r .answer) ≡ callTold 0 size (judged .burn)) × (r .session ≡ standsThen session (judged .standing)) ⌝ }
 {

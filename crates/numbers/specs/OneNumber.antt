@@ -2,7 +2,7 @@
 use Prim.Native.Nat.{ℕ, _+_, _*_}
 use mathlib.Core.Bool.{Bool, false}
 use Rattle.octets.specs.Choice.{pick}
-use Rattle.settings.specs.Answer.{Numbered}
+use Rattle.settings.specs.Answers.{Numbered}
 
 -- the refusal in the top byte of eight, whether the board burns its fuse in bit 32, and the reply's size or the entry's number below
 abbrev pub refusalUnit : ℕ

@@ -5,7 +5,7 @@ use mathlib.Core.List.{List}
 use lib.Dec.{eqb}
 use lib.ListN.{length}
 use Rattle.octets.specs.Choice.{pick}
-use Rattle.settings.specs.Answer.{Numbered}
+use Rattle.settings.specs.Answers.{Numbered}
 use Rattle.numbers.specs.OneNumber.{refusal, refusalOf}
 
 pub record Stored : Type 0 where

@@ -1,11 +1,11 @@
 // The numbers that C is answered with: one comes back from each call that can be refused. docs/RECORD.md says the same in words.
 ghost use mathlib.Core.Path.{_≡_};
-ghost use Rattle.settings.specs.Answer.{refusalNumbered};
+ghost use Rattle.settings.specs.Answers.{refusalNumbered};
 ghost use Rattle.numbers.specs.OneNumber.{refusalOf};
 use settings::Refusal;
 
 // The refusal is in the top byte, the burn in bit 32.
-const REFUSAL_UNIT: u64 = 0x0100_0000_0000_0000;
+pub const REFUSAL_UNIT: u64 = 0x0100_0000_0000_0000;
 
 pub const BURN_UNIT: u64 = 0x0000_0001_0000_0000;
 

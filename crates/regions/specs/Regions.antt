@@ -21,7 +21,7 @@ abbrev pub mspm0Part : Part
 mspm0Part = record { «settings_start» = 0x41C00000; «settings_size» = 1024 }
 
 -- "wholly in one region": from the region's start on, and not past its end. These are numbers of any size, so nothing wraps.
--- A range of 0 bytes lies in a region from its start up to, and with, the address after its end.
+-- A range of 0 bytes lies in a region from its start up to and including the address after its end.
 unfoldable pub liesWithin : ℕ → ℕ → ℕ → ℕ → Bool
 liesWithin start size first count = pick (leb start first) (leb (first + count) (start + size)) false
 
@@ -29,7 +29,7 @@ liesWithin start size first count = pick (leb start first) (leb (first + count) 
 abbrev pub placeIn : Region → ℕ → ℕ → Place
 placeIn region start first = record { region = region; offset = first - start }
 
--- outside of every region the offset is 0
+-- outside of every region the offset is 0; 01: "SRAM addresses are not in any region in the base."
 abbrev pub nowhere : Place
 nowhere = record { region = Outside; offset = 0 }
 

@@ -43,7 +43,7 @@ abbrev pub sent : ℕ → List ℕ → Sent
 sent size area = record { size = size; area = area }
 
 -- 01, The loader and its edges: "A reply area has at least 1,729 bytes; those past the reply stay as lent."
--- A reply of more bytes, or one for which the area has no room, is not written at all.
+-- Ours: a reply of more bytes, or one for which the area has no room, is not written at all. No call comes to either.
 unfoldable pub sentOf : List ℕ → List ℕ → Sent
 sentOf bytes area =
     pick (ltb replyLimit (length bytes)) (sent 0 area)

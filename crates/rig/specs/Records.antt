@@ -1,5 +1,5 @@
 -- 01, The loader and its edges: "From C the record is a byte area whose layout stands in docs/". A session as bytes, and bytes as a session.
-use Prim.Native.Nat.{ℕ}
+use Prim.Native.Nat.{ℕ, _+_}
 use mathlib.Core.Bool.{Bool, false}
 use mathlib.Core.List.{List, _∷_, _++_}
 use lib.Dec.{leb, eqb}
@@ -13,7 +13,7 @@ use Rattle.layout.specs.Layout.{form1}
 use Rattle.fields.specs.Bodies.{bodiesOf}
 use Rattle.fields.specs.Fields.{fieldsRead}
 use Rattle.sessions.specs.declared.Session.{Session}
-use Rattle.numbers.specs.FieldsArea.{fieldsSize}
+use Rattle.numbers.specs.FieldsArea.{fieldsSize, zeroAt}
 
 -- a record has 90 bytes: phase, lock, wrong count and rate id; then sleep, idle and the size of MAIN, four bytes each; then the settings' fields
 abbrev pub recordSize : ℕ
@@ -32,8 +32,8 @@ abbrev pub fieldsAt : ℕ
 fieldsAt = 16
 
 -- the zero byte of body 3
-abbrev pub unusedAt : ℕ
-unusedAt = 69
+abbrev pub zeroByteAt : ℕ
+zeroByteAt = fieldsAt + zeroAt
 
 -- ---- a session as bytes
 
@@ -104,5 +104,5 @@ phaseFits code lock sleep =
 unfoldable pub isRecordArea : List ℕ → Bool
 isRecordArea area =
     pick (eqb (length area) recordSize)
-    (pick (phaseFits (getD area 0 0) (getD area 1 0) (numberAt sleepAt 4 area)) (eqb (getD area unusedAt 0) 0) false)
+    (pick (phaseFits (getD area 0 0) (getD area 1 0) (numberAt sleepAt 4 area)) (eqb (getD area zeroByteAt 0) 0) false)
     false

@@ -6,7 +6,7 @@ use crate::IDLE_AT;
 use crate::MAIN_SIZE_AT;
 use crate::RECORD_SIZE;
 use crate::SLEEP_AT;
-use crate::UNUSED_AT;
+use crate::ZERO_AT;
 use sessions::Session;
 use standing::Phase;
 use standing::Standing;
@@ -76,5 +76,5 @@ pub(crate) fn is_record_area(area: &[u8]) -> bool
     if !phase_fits(octets::byte_at(area, 0), octets::byte_at(area, 1), sleep) {
         return false;
     }
-    octets::byte_at(area, UNUSED_AT) == 0
+    octets::byte_at(area, ZERO_AT) == 0
 }

@@ -8,7 +8,7 @@ pub use boundary::bhorelmu_call;
 pub use boundary::bhorelmu_start;
 
 // A session record as bytes: phase, lock, wrong count and rate id, then sleep, idle and the size of MAIN, then the settings' fields.
-pub const RECORD_SIZE: usize = 90;
+pub(crate) const RECORD_SIZE: usize = 90;
 
 pub(crate) const SLEEP_AT: usize = 4;
 
@@ -19,4 +19,4 @@ pub(crate) const MAIN_SIZE_AT: usize = 12;
 pub(crate) const FIELDS_AT: usize = 16;
 
 // The zero byte of body 3.
-pub(crate) const UNUSED_AT: usize = 69;
+pub(crate) const ZERO_AT: usize = FIELDS_AT + fields::ZERO_AT;

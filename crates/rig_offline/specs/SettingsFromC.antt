@@ -8,7 +8,7 @@ use Rattle.octets.specs.Choice.{pick}
 use Rattle.layout.specs.Layout.{form1, imageSize}
 use Rattle.fields.specs.Bodies.{bodiesOf}
 use Rattle.fields.specs.Fields.{fieldsRead}
-use Rattle.settings.specs.Answer.{numbered}
+use Rattle.settings.specs.Answers.{numbered}
 use Rattle.settings.specs.Reader.{readOf}
 use Rattle.settings.specs.Writer.{writeOf}
 use Rattle.numbers.specs.OneNumber.{refusal}

@@ -1,6 +1,6 @@
 // One number for what the settings reader and writer answer.
 ghost use mathlib.Core.Path.{_≡_};
-ghost use Rattle.settings.specs.Answer.{readNumbered, writeNumber};
+ghost use Rattle.settings.specs.Answers.{readNumbered, writeNumber};
 ghost use Rattle.numbers.specs.OneNumber.{refusal, refusalOf};
 use settings::ReadAnswer;
 use settings::WriteAnswer;

@@ -1,15 +1,12 @@
 // The settings image from C.
 ghost use mathlib.Core.Path.{_≡_};
 ghost use Rattle.fields.specs.Bodies.{bodiesOf};
-ghost use Rattle.settings.specs.Answer.{readNumbered};
+ghost use Rattle.settings.specs.Answers.{readNumbered};
 ghost use Rattle.numbers.specs.Stored.{stored, storedBy};
 ghost use Rattle.numbers.specs.FieldsArea.{fieldsSize};
 ghost use Rattle.rig_offline.specs.SettingsFromC.{readFromC, writeFromC};
 use crate::answers;
 use settings::Reading;
-
-// The zero byte of body 3, among the fields.
-const ZERO_AT: usize = 53;
 
 // Stores the fields of settings that were read.
 fn store_fields(reading: Reading, area: &mut [u8]) -> u64
@@ -46,7 +43,7 @@ pub extern "C" fn bhorelmu_settings_write(fields: &[u8], image: &mut [u8]) -> u6
     if fields.len() != fields::FIELDS_SIZE {
         return numbers::RECORD_NOT_VALID;
     }
-    if octets::byte_at(fields, ZERO_AT) != 0 {
+    if octets::byte_at(fields, fields::ZERO_AT) != 0 {
         return numbers::VALUE_NOT_ALLOWED;
     }
     answers::of_write(settings::write(fields::read_fields(fields), image))

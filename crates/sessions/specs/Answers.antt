@@ -1,5 +1,5 @@
 -- 01, Numbers of refused calls: the number of each answer of start, and what goes with it. A start that is not refused has the number 0.
-use Rattle.settings.specs.Answer.{Numbered, numbered, refusalNumbered}
+use Rattle.settings.specs.Answers.{Numbered, numbered, refusalNumbered}
 use Rattle.sessions.specs.declared.Session.{Session}
 use Rattle.sessions.specs.declared.StartAnswer.{StartAnswer}
 use Rattle.sessions.specs.declared.StartAnswer.the-variants as start

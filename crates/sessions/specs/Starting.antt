@@ -9,17 +9,18 @@ use Rattle.standing.specs.Phases.{atStart}
 use Rattle.values.specs.declared.Settings.{Settings}
 use Rattle.values.specs.Values.{noSettings}
 use Rattle.layout.specs.Layout.{form1}
-use Rattle.settings.specs.Answer.{ReadTold, numbered}
+use Rattle.settings.specs.Answers.{ReadTold, numbered}
 use Rattle.settings.specs.Reader.{readOf}
 use Rattle.sessions.specs.declared.Session.{Session}
 use Rattle.regions.specs.Regions.{isMainSize}
 use Rattle.sessions.specs.Answers.{StartTold}
 
--- "Start gives detect, idle 0, sleep 0, wrong count 0, rate id 2. Settings are taken at start"
+-- "Start gives detect, idle 0, sleep 0, wrong count 0, rate id 2. Settings are taken at start; later writes to the settings flash count from
+-- the next start."
 abbrev pub sessionOf : ℕ → Settings → Session
 sessionOf mainSize settings = record { standing = atStart; «main_size» = mainSize; settings = settings }
 
--- what stands beside a refusal: its MAIN size is outside the rule, so every call refuses it
+-- what stands beside a refusal: no valid record, so that every call refuses it
 abbrev pub noSession : Session
 noSession = sessionOf 0 noSettings
 

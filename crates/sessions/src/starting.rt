@@ -1,7 +1,7 @@
 // Starting a session: the refusals of document 01 in their order, or the session.
 ghost use mathlib.Core.Path.{_≡_};
 ghost use Rattle.standing.specs.Phases.{atStart};
-ghost use Rattle.settings.specs.Answer.{readTold};
+ghost use Rattle.settings.specs.Answers.{readTold};
 ghost use Rattle.sessions.specs.Answers.{startNumbered, startTold};
 ghost use Rattle.sessions.specs.Starting.{sessionOf, startRead, startOf, startRefused};
 use crate::Session;
@@ -9,8 +9,8 @@ use crate::StartAnswer;
 use crate::Started;
 use settings::ReadAnswer;
 use settings::Reading;
-use standing::FIRST_RATE;
 use standing::Phase;
+use standing::RATE_ID_AT_START;
 use standing::Standing;
 use values::Settings;
 
@@ -22,7 +22,7 @@ fn at_start() -> Standing
         phase: Phase::Detect,
         idle: 0,
         wrong: 0,
-        rate: FIRST_RATE,
+        rate: RATE_ID_AT_START,
     }
 }
 

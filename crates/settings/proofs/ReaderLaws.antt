@@ -15,7 +15,7 @@ use Rattle.layout.specs.Entries.{entryDiffers, differingEntry}
 use Rattle.fields.specs.Bodies.{bodyIn, shownIn}
 use Rattle.settings.specs.declared.Refusal.{Refusal}
 use Rattle.settings.specs.declared.Refusal.the-variants.{SizeWrong, ChecksumDiffers, FormUnknown, EntryDiffers, FillerDiffers, ValueNotAllowed}
-use Rattle.settings.specs.Answer.{refusalNumbered}
+use Rattle.settings.specs.Answers.{refusalNumbered}
 use Rattle.settings.specs.Reader.{valueNotAllowed}
 
 -- every refusal has a number

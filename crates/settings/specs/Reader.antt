@@ -12,7 +12,7 @@ use Rattle.layout.specs.Layout.{Layout, imageSize, checksumAt, countOf, bodiesE
 use Rattle.layout.specs.Entries.{differingEntry}
 use Rattle.fields.specs.Bodies.{bodyIn, shownIn, settingsIn}
 use Rattle.values.specs.Values.{isAllowed, blankSettings}
-use Rattle.settings.specs.Answer.{ReadTold, accepted, refused, refusedAt}
+use Rattle.settings.specs.Answers.{ReadTold, accepted, refused, refusedAt}
 
 -- "An image of 1,024 bytes 0xFF is blank"
 abbrev pub isBlank : List ℕ → Bool

@@ -9,7 +9,7 @@ use Rattle.values.specs.declared.Settings.{Settings}
 use Rattle.layout.specs.Layout.{Layout, imageSize}
 use Rattle.values.specs.Values.{isAllowed}
 use Rattle.settings.specs.Image.{imageOf}
-use Rattle.settings.specs.Answer.{WriteLeft, writeLeft}
+use Rattle.settings.specs.Answers.{WriteLeft, writeLeft}
 
 -- the writer, into a lent area
 unfoldable pub writeOf : Layout → Settings → List ℕ → WriteLeft

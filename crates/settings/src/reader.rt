@@ -7,7 +7,7 @@ ghost use Rattle.octets.specs.Choice.{pick};
 ghost use Rattle.layout.specs.Layout.{form1};
 ghost use Rattle.values.specs.Values.{isAllowed};
 ghost use Rattle.fields.specs.Bodies.{settingsIn};
-ghost use Rattle.settings.specs.Answer.{readTold, refusalNumbered, refusedAt, accepted};
+ghost use Rattle.settings.specs.Answers.{readTold, refusalNumbered, refusedAt, accepted};
 ghost use Rattle.settings.specs.Reader.{checksumDiffers, formUnknown, fillerDiffers, valueNotAllowed, readWritten, readOf};
 use crate::BODIES_END;
 use crate::CHECKSUM_AT;

@@ -6,7 +6,7 @@ ghost use Rattle.octets.specs.Number.{bytesOf};
 ghost use Rattle.checksum.specs.Checksum.{checksumOf};
 ghost use Rattle.layout.specs.Layout.{form1, checksumAt, bodiesEnd};
 ghost use Rattle.settings.specs.Image.{fillerOf, frontOf};
-ghost use Rattle.settings.specs.Answer.{writeNumber, writeLeft};
+ghost use Rattle.settings.specs.Answers.{writeNumber, writeLeft};
 ghost use Rattle.settings.specs.Writer.{writeOf};
 use crate::BODIES_END;
 use crate::CHECKSUM_AT;

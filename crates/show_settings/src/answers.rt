@@ -1,68 +1,31 @@
-// The number that document 01 gives to each answer of the reader and the writer, and how it is told.
-ghost use mathlib.Core.Path.{_≡_};
-ghost use Rattle.settings.specs.Answer.{refusalNumbered, writeNumber};
+// The answers of the reader and the writer, told by the numbers that document 01 gives them.
 use crate::text;
+use numbers::REFUSAL_UNIT;
 use settings::ReadAnswer;
-use settings::Refusal;
 use settings::WriteAnswer;
 
-fn refusal_number(refusal: Refusal) -> u64
-    ensures { λ r. ⌜ r ≡ refusalNumbered refusal .number ⌝ }
-{
-    match refusal {
-        Refusal::SizeWrong => 3,
-        Refusal::ChecksumDiffers => 4,
-        Refusal::FormUnknown => 5,
-        Refusal::EntryDiffers(_) => 6,
-        Refusal::FillerDiffers => 7,
-        Refusal::ValueNotAllowed => 8,
-    }
-}
-
-// The entry that goes with refusal 6, and 0 with any other.
-fn refusal_entry(refusal: Refusal) -> u8
-    ensures { λ r. ⌜ r ≡ refusalNumbered refusal .entry ⌝ }
-{
-    match refusal {
-        Refusal::SizeWrong => 0,
-        Refusal::ChecksumDiffers => 0,
-        Refusal::FormUnknown => 0,
-        Refusal::EntryDiffers(entry) => entry,
-        Refusal::FillerDiffers => 0,
-        Refusal::ValueNotAllowed => 0,
-    }
-}
-
-fn write_number(answer: WriteAnswer) -> u64
-    ensures { λ r. ⌜ r ≡ writeNumber answer ⌝ }
-{
-    match answer {
-        WriteAnswer::Written => 0,
-        WriteAnswer::SizeWrong => 3,
-        WriteAnswer::ValueNotAllowed => 8,
-    }
-}
-
-fn say_answer(number: u64, entry: u8) {
-    if number == 0 {
-        text::say(b" accepted");
-        return;
-    }
+// The number is in the top byte, and the entry that goes with 6 below it.
+fn say_refused(refusal: u64) {
     text::say(b" refused");
-    text::say_number(number);
+    text::say_number(refusal / REFUSAL_UNIT);
+    let entry = refusal % REFUSAL_UNIT;
     if entry != 0 {
         text::say(b" at entry");
-        text::say_number(entry as u64);
+        text::say_number(entry);
     }
 }
 
 pub(crate) fn say_reading(answer: ReadAnswer) {
     match answer {
-        ReadAnswer::Accepted => say_answer(0, 0),
-        ReadAnswer::Refused(refusal) => say_answer(refusal_number(refusal), refusal_entry(refusal)),
+        ReadAnswer::Accepted => text::say(b" accepted"),
+        ReadAnswer::Refused(refusal) => say_refused(numbers::of_refusal(refusal)),
     }
 }
 
 pub(crate) fn say_writing(answer: WriteAnswer) {
-    say_answer(write_number(answer), 0);
+    match answer {
+        WriteAnswer::Written => text::say(b" accepted"),
+        WriteAnswer::SizeWrong => say_refused(numbers::SETTINGS_SIZE_WRONG),
+        WriteAnswer::ValueNotAllowed => say_refused(numbers::VALUE_NOT_ALLOWED),
+    }
 }

@@ -9,12 +9,12 @@ use Rattle.standing.specs.declared.Standing.{Standing}
 use Rattle.wire.specs.Acknowledgement.{isRate}
 
 -- "rate id 2": at start, and after a wrong password
-abbrev pub firstRate : ℕ
-firstRate = 2
+abbrev pub rateIdAtStart : ℕ
+rateIdAtStart = 2
 
 -- "Start gives detect, idle 0, sleep 0, wrong count 0, rate id 2." Detect has no sleep.
 unfoldable pub atStart : Standing
-atStart = record { phase = Detect; idle = 0; wrong = 0; rate = firstRate }
+atStart = record { phase = Detect; idle = 0; wrong = 0; rate = rateIdAtStart }
 
 -- "unlocked": in the command phase alone
 abbrev pub isUnlocked : Phase → Bool

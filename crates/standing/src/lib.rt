@@ -6,14 +6,14 @@ pub use phases::is_valid;
 pub use rates::rate_of;
 
 // The most that a valid standing has of idle time, of sleep, both in milliseconds, and of wrong passwords.
-pub const MOST_IDLE: u32 = 9999;
+pub(crate) const MOST_IDLE: u32 = 9999;
 
 pub const MOST_SLEEP: u32 = 2000;
 
 pub const MOST_WRONG: u8 = 3;
 
 // The rate id at start, and after a wrong password.
-pub const FIRST_RATE: u8 = 2;
+pub const RATE_ID_AT_START: u8 = 2;
 
 // The lock and the sleep that is left, in milliseconds, are there in the command phase alone.
 pub enum Phase {

@@ -6,7 +6,7 @@ use crate::MOST_SLEEP;
 use crate::MOST_WRONG;
 use crate::Phase;
 use crate::Standing;
-use crate::rates;
+use wire::codes;
 
 // Whether lock and sleep go together.
 fn is_valid_phase(phase: Phase) -> bool
@@ -36,10 +36,10 @@ pub fn is_valid(standing: Standing) -> bool
     if MOST_WRONG < standing.wrong {
         return false;
     }
-    if standing.rate < rates::FIRST_ID {
+    if standing.rate < codes::FIRST_RATE_ID {
         return false;
     }
-    if rates::LAST_ID < standing.rate {
+    if codes::LAST_RATE_ID < standing.rate {
         return false;
     }
     let phase = standing.phase;

@@ -1,11 +1,7 @@
 // The rates of the line.
 ghost use mathlib.Core.Path.{_≡_};
 ghost use Rattle.standing.specs.Rates.{rateOf};
-
-// The ids are 1 to 9.
-pub(crate) const FIRST_ID: u8 = 1;
-
-pub(crate) const LAST_ID: u8 = 9;
+use wire::codes;
 
 // Indexed by the id; no rate has the id 0.
 const RATES: [u32; 10] = [
@@ -25,7 +21,7 @@ const RATES: [u32; 10] = [
 pub fn rate_of(id: u8) -> u32
     ensures { λ r. ⌜ r ≡ rateOf id ⌝ }
 {
-    if LAST_ID < id {
+    if codes::LAST_RATE_ID < id {
         return 0;
     }
     RATES[id as usize]

@@ -25,7 +25,7 @@ pub fn blank() -> Settings
     }
 }
 
-// What stands beside a refusal: a reset mode that no call takes.
+// What stands beside a refusal: settings with a reset mode that no call takes.
 pub fn none() -> Settings
     ensures { λ r. ⌜ r ≡ noSettings ⌝ }
 {

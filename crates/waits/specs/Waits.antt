@@ -1,5 +1,5 @@
 -- 01, Phases and waits: "Each call has a wait in milliseconds (32 bits, no sign) since the previous call, then a packet, perhaps empty."
--- Its rules (a), (b) and (c) stand here; (d), the empty packet, is for the call.
+-- Its rules (a), (b) and (c) stand here; (d), the empty packet, stands in `judge`.
 use Prim.Native.Nat.{ℕ, _+_, _-_}
 use mathlib.Core.Bool.{Bool, true, false}
 use lib.Dec.{ltb, leb}

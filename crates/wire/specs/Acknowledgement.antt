@@ -6,12 +6,12 @@ use lib.Dec.{ltb, leb, eqb}
 use lib.ListN.{length, getD}
 use Rattle.octets.specs.Choice.{pick}
 use Rattle.checksum.specs.Checksum.{checksumOf}
-use Rattle.wire.specs.Codes.{lengthLimit, commandHeader, acknowledged, headerIncorrect, checksumIncorrect, sizeZero, sizeTooBig, unknownError, unknownRate, rate}
+use Rattle.wire.specs.Codes.{firstRateId, lastRateId, lengthLimit, commandHeader, acknowledged, headerIncorrect, checksumIncorrect, sizeZero, sizeTooBig, unknownError, unknownRate, rate}
 use Rattle.wire.specs.Packet.{lengthIn, coreIn, checksumIn, codeIn, rateIn}
 
 -- 01, Commands, 0x52 Rate: "Rates for 1..9"
 unfoldable pub isRate : ℕ → Bool
-isRate id = pick (ltb id 1) false (leb id 9)
+isRate id = pick (ltb id firstRateId) false (leb id lastRateId)
 
 -- "Checksum", "over the core bytes only"
 unfoldable pub checksumDiffers : List ℕ → Bool

@@ -5,7 +5,8 @@ use mathlib.Core.List.{List, [], _∷_}
 use lib.Dec.{eqb}
 use Rattle.octets.specs.Choice.{pick}
 
--- 01, The loader and its edges: "A packet has at most 1,728 (0x06C0) bytes, so the core length L is at most 1,721. A reply area has at least 1,729 bytes"
+-- 01, The loader and its edges: "A packet has at most 1,728 (0x06C0) bytes, so the core length L is at most 1,721. A reply area has at least 1,729 bytes".
+-- Three bytes stand before a core and four after it.
 abbrev pub packetLimit : ℕ
 packetLimit = 1728
 
@@ -15,6 +16,13 @@ lengthLimit = 1721
 -- so many bytes a reply area has at least, and a reply at most
 abbrev pub replyLimit : ℕ
 replyLimit = 1729
+
+-- 01, Commands, 0x52 Rate: "Rates for 1..9"
+abbrev pub firstRateId : ℕ
+firstRateId = 1
+
+abbrev pub lastRateId : ℕ
+lastRateId = 9
 
 -- 01, Acknowledgement: "First byte not 0x80"; Commands: "framed 08"
 abbrev pub commandHeader : ℕ
@@ -132,7 +140,7 @@ notAligned = 0x0A
 abbrev pub tooSmall : ℕ
 tooSmall = 0x0B
 
--- a code is one of some
+-- whether a code is one of some codes
 unfoldable pub isOneOf : ℕ → List ℕ → Bool
 isOneOf code [] = false
 isOneOf code (one ∷ codes) = pick (eqb code one) true (isOneOf code codes)

@@ -25,7 +25,8 @@ lengthFits code length =
     (pick (eqb code rate) (eqb length 2)
     (eqb length 1))))))))
 
--- a protected command of right length; the data of Program are all that follows the address; "0x24 likewise, silent"
+-- a protected command of right length; the data of Program are all that follows the address. "0x24 likewise, silent": the last of Program
+-- says which of the two it is; what is not sent of an answer follows from the command byte (`isSilent`).
 unfoldable pub guardedOf : ℕ → ℕ → ℕ → ℕ → Guarded
 guardedOf code length first second =
     pick (eqb code rangeErase) (guarded.RangeErase first second)
@@ -45,7 +46,7 @@ openOf code id =
     (pick (eqb code start) command.Start
     (command.Rate id))))
 
--- a protected command, of right or wrong length: which of them, is for the lock to hide
+-- a protected command, of right or wrong length: the lock hides which of the two
 unfoldable pub guardedIn : List ℕ → Guarded
 guardedIn packet =
     pick (lengthFits (codeIn packet) (lengthIn packet))

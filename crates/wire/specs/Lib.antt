@@ -1,4 +1,4 @@
--- What stands on the line, in reading order; each definition names its sentence of document 01.
+-- What stands on the line, in reading order; each definition of a rule names its sentence of document 01.
 -- Codes: every code and limit, once.
 pub mod Codes
 -- Packet: the parts of a packet.

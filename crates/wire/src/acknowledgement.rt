@@ -19,10 +19,10 @@ pub(crate) fn length_in(packet: &[u8]) -> u16
 fn is_rate(id: u8) -> bool
     ensures { λ r. ⌜ r ≡ isRate id ⌝ }
 {
-    if id < 1 {
+    if id < codes::FIRST_RATE_ID {
         return false;
     }
-    id <= 9
+    id <= codes::LAST_RATE_ID
 }
 
 fn checksum_differs(packet: &[u8]) -> bool

@@ -21,8 +21,8 @@ pub const FIRST_AT: usize = 4;
 pub const SECOND_AT: usize = 8;
 
 // A protected command. Its wrong length is told in here, so that nobody looks at it before the lock. The data of Program stay
-// in the packet, `size` bytes from SECOND_AT on, and so does a reset password, 16 bytes from FIRST_AT on. A Program that is
-// silent is 0x24.
+// in the packet, `size` bytes from SECOND_AT on, and so does a reset password, 16 bytes from FIRST_AT on. Of the two that
+// program, 0x24 is the silent one.
 pub enum Guarded {
     RangeErase {
         start: u32,

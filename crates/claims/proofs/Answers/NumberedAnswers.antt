@@ -9,7 +9,7 @@ use Rattle.settings.specs.declared.ReadAnswer.{ReadAnswer}
 use Rattle.settings.specs.declared.ReadAnswer.the-variants as read
 use Rattle.settings.specs.declared.WriteAnswer.{WriteAnswer}
 use Rattle.settings.specs.declared.WriteAnswer.the-variants as write
-use Rattle.settings.specs.Answer.{Numbered, refusalNumbered, readNumbered, writeNumber}
+use Rattle.settings.specs.Answers.{Numbered, refusalNumbered, readNumbered, writeNumber}
 use Rattle.settings.proofs.ReaderLaws.{refuses}
 use Rattle.sessions.specs.declared.StartAnswer.{StartAnswer}
 use Rattle.sessions.specs.declared.StartAnswer.the-variants as start

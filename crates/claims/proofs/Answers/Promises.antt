@@ -28,7 +28,7 @@ use Rattle.fields.specs.Bodies.{bodiesOf}
 use Rattle.fields.specs.Fields.{fieldsRead}
 use Rattle.settings.specs.declared.WriteAnswer.{WriteAnswer}
 use Rattle.settings.specs.declared.Refusal.{Refusal}
-use Rattle.settings.specs.Answer.{numbered, refusalNumbered, readTold, writeLeft, writeNumber}
+use Rattle.settings.specs.Answers.{numbered, refusalNumbered, readTold, writeLeft, writeNumber}
 use Rattle.settings.specs.Reader.{readOf}
 use Rattle.settings.specs.Writer.{writeOf}
 use Rattle.regions.specs.declared.Part.{Part}
@@ -42,7 +42,7 @@ use Rattle.info.specs.Info.{infoReply}
 use Rattle.decisions.specs.declared.Effect.{Effect}
 use Rattle.decisions.specs.Unlocking.{tried}
 use Rattle.judge.specs.Hearing.{judgedOf}
-use Rattle.act.specs.Memory.{acted, board}
+use Rattle.act.specs.Board.{acted, board}
 use Rattle.act.specs.Acting.{actOf}
 use Rattle.sending.specs.Answering.{answerOf}
 use Rattle.sessions.specs.declared.Session.{Session}
@@ -285,8 +285,8 @@ in-place-call-is-one session main image wait packet area =
 
 -- ---- numbers
 
-pub of-refusal-is-one : (why : Refusal) → OneAnswer (λ r. r ≡ refusalOf (refusalNumbered why))
-of-refusal-is-one why = as-said (refusalOf (refusalNumbered why))
+pub of-refusal-is-one : (refusal : Refusal) → OneAnswer (λ r. r ≡ refusalOf (refusalNumbered refusal))
+of-refusal-is-one refusal = as-said (refusalOf (refusalNumbered refusal))
 
 -- ---- rig_offline
 

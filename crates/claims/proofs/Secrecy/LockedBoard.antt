@@ -13,12 +13,11 @@ use Rattle.regions.specs.Memory.{Memory, memory}
 use Rattle.sectors.specs.Erasing.{eraseAllOf}
 use Rattle.sectors.proofs.ErasingLaws.{erase-all-keeps-length, erase-all-at, erase-all-twice}
 use Rattle.decisions.specs.Unlocking.{alertReset}
-use Rattle.act.specs.Memory.{Board, board, sectorSize, settingsProtection}
+use Rattle.act.specs.Board.{Board, board, sectorSize, settingsProtection}
 use Rattle.act.specs.Erasing.{allErased}
 use Rattle.info.specs.Info.{versionAt}
 use Rattle.act.proofs.LockedLaws.{erased-versions-alike}
 use Rattle.sessions.specs.declared.Session.{Session}
-use Rattle.loader.specs.Answers.{CallTold, left}
 use Rattle.loader.specs.Records.{isRecord}
 use Rattle.sessions.specs.Starting.{startOf}
 use Rattle.claims.specs.TwoBoards.{Images, Running, settingsOf, started, isStruck, AsClaimed, Flash}
@@ -26,31 +25,31 @@ use Rattle.claims.proofs.Sessions.CallRules.{started-session, started-i
 
 -- ---- an image, before the alert has struck and after
 
--- all that may change is erased by a strike, and only by it
-unfoldable pub imageThen : Bool → List ℕ → List ℕ → List ℕ
-imageThen struck protection image = pick struck (eraseAllOf sectorSize protection image) image
+-- all that may change is erased by a strike, and only by it; its sectors may have any size
+unfoldable pub imageThen : ℕ → Bool → List ℕ → List ℕ → List ℕ
+imageThen size struck protection image = pick struck (eraseAllOf size protection image) image
 
-module _ (protection image : List ℕ) where
-  image-keeps-length : (struck : Bool) → length (imageThen struck protection image) ≡ length image
+module _ (size : ℕ) (protection image : List ℕ) where
+  image-keeps-length : (struck : Bool) → length (imageThen size struck protection image) ≡ length image
   unfolding imageThen pick
-  image-keeps-length true = erase-all-keeps-length sectorSize protection 0 0 image
+  image-keeps-length true = erase-all-keeps-length size protection 0 0 image
   image-keeps-length false = refl
 
   -- "a flash byte is 0xFF once three wrong passwords were counted .. and the place is unprotected; else it is as at the start"
-  image-is-as-claimed : (struck : Bool) → AsClaimed struck protection image (imageThen struck protection image)
+  image-is-as-claimed : (struck : Bool) → AsClaimed size struck protection image (imageThen size struck protection image)
   unfolding imageThen pick
-  image-is-as-claimed true place there = erase-all-at sectorSize protection image place there
+  image-is-as-claimed true place there = erase-all-at size protection image place there
   image-is-as-claimed false place there = refl
 
   -- a second strike finds nothing to erase
-  struck-again : (struck : Bool) → eraseAllOf sectorSize protection (imageThen struck protection image) ≡ imageThen true protection image
+  struck-again : (struck : Bool) → eraseAllOf size protection (imageThen size struck protection image) ≡ imageThen size true protection image
   unfolding imageThen pick
-  struck-again true = erase-all-twice sectorSize protection image
+  struck-again true = erase-all-twice size protection image
   struck-again false = refl
 
 -- images of one length that publish the same version do so before and after
 pub versions-stay-alike : (pointer : ℕ) (protection one other : List ℕ) → length one ≡ length other → versionAt pointer one ≡ versionAt pointer other
-    → (struck : Bool) → versionAt pointer (imageThen struck protection one) ≡ versionAt pointer (imageThen struck protection other)
+    → (struck : Bool) → versionAt pointer (imageThen sectorSize struck protection one) ≡ versionAt pointer (imageThen sectorSize struck protection other)
 unfolding imageThen pick
 versions-stay-alike pointer protection one other size same true = erased-versions-alike pointer protection one other size same
 versions-stay-alike pointer protection one other size same false = same
@@ -67,15 +66,15 @@ lets images = board (length (images .main)) (settingsOf images .shown) (settings
 -- its images, its session, and all of it
 abbrev pub memoryThen : Images → Bool → Memory
 memoryThen images struck =
-    memory (imageThen struck (settingsOf images .protection) (images .main))
-    (imageThen struck (settingsProtection (settingsOf images .shown)) (images .settings))
+    memory (imageThen sectorSize struck (settingsOf images .protection) (images .main))
+    (imageThen sectorSize struck (settingsProtection (settingsOf images .shown)) (images .settings))
 
 abbrev pub sessionThen : Images → Standing → Session
 sessionThen images standing = record { standing = standing; «main_size» = length (images .main); settings = settingsOf images }
 
 abbrev pub later : Images → Standing → Running
 later images standing =
-    record { session = sessionThen images standing; memory = memoryThen images (isStruck (alertOf images) standing) }
+    record { session = sessionThen images standing; memory = memoryThen images (isStruck (alertOf images) (standing .wrong)) }
 
 -- the record is valid beside the images
 abbrev pub HasRecord : Running → Type 0
@@ -89,21 +88,20 @@ pub record Locked (images : Images) (standing : Standing) : Type 0 where
 module _ (images : Images) where
   -- a strike erases both images, whether it is the first or not
   pub strike-erases : (struck : Bool) → allErased (lets images) (memoryThen images struck) ≡ memoryThen images true
-  strike-erases struck = ap₂ memory (struck-again _ _ struck) (struck-again _ _ struck)
+  strike-erases struck = ap₂ memory (struck-again _ _ _ struck) (struck-again _ _ _ struck)
 
   -- what is claimed of a board's flash after a call
-  pub flash-is-as-claimed : (told : CallTold) (standing : Standing) (area : List ℕ)
-      → Flash images (left told (sessionThen images standing) (later images standing .memory) area)
-  flash-is-as-claimed told standing area =
+  pub flash-is-as-claimed : (standing : Standing) → Flash images (standing .wrong) (later images standing .memory)
+  flash-is-as-claimed standing =
       record {
-        mainSize = image-keeps-length _ _ _;
-        main = image-is-as-claimed _ _ _;
-        settingsSize = image-keeps-length _ _ _;
-        settings = image-is-as-claimed _ _ _;
+        mainSize = image-keeps-length _ _ _ _;
+        main = image-is-as-claimed _ _ _ _;
+        settingsSize = image-keeps-length _ _ _ _;
+        settings = image-is-as-claimed _ _ _ _;
       }
 
   -- a session that starts has counted no wrong password
-  not-struck-at-start : isStruck (alertOf images) atStart ≡ false
+  not-struck-at-start : isStruck (alertOf images) (atStart .wrong) ≡ false
   unfolding isStruck atStart
   not-struck-at-start = by-test (eqb (alertOf images) alertReset) (λ y. pick-true _ _ y) (λ n. pick-false _ _ n)
 

@@ -21,7 +21,7 @@ use Rattle.decisions.proofs.EffectTests.{isPerformed}
 use Rattle.judge.specs.Hearing.{judgedOf}
 use Rattle.judge.proofs.JudgeLaws.{wrong-never-unlocks, locked-performs-nothing, strikes-at-three}
 use Rattle.judge.proofs.StrangerLaws.{only-unlock-is-compared, no-third-without-strike}
-use Rattle.act.specs.Memory.{Acted}
+use Rattle.act.specs.Board.{Acted}
 use Rattle.act.proofs.LockedLaws.{only-strikes-change}
 use Rattle.sending.specs.Answering.{hushed, answerOf}
 use Rattle.sending.proofs.AnsweringLaws.{whole, no-bytes-asked}
@@ -65,14 +65,14 @@ module _ (images : Images) (standing : Standing) (locked : Locked images standin
   -- ---- both images
 
   -- a strike comes with the third wrong password
-  strike-is-counted : decided .effect ≡ Strike → isStruck alert (decided .standing) ≡ true
+  strike-is-counted : decided .effect ≡ Strike → isStruck alert (decided .standing .wrong) ≡ true
   unfolding isStruck
   strike-is-counted e =
       let three = strikes-at-three standing alert (sending .wait) (sending .packet) false e in
       pick-true _ _ (eq-eqb _ _ (three .0)) ∙ eq-eqb _ _ (three .1)
 
   -- and the third wrong password with a strike
-  count-is-kept : (decided .effect ≡ Strike → ⊥) → isStruck alert (decided .standing) ≡ isStruck alert standing
+  count-is-kept : (decided .effect ≡ Strike → ⊥) → isStruck alert (decided .standing .wrong) ≡ isStruck alert (standing .wrong)
   unfolding isStruck
   count-is-kept none =
       by-test (eqb alert alertReset)

@@ -15,6 +15,7 @@ use Rattle.decisions.specs.declared.Effect.{Effect}
 use Rattle.decisions.specs.declared.Judged.{Judged}
 use Rattle.decisions.proofs.EffectTests.{isPerformed}
 use Rattle.judge.specs.Hearing.{judgedOf}
+use Rattle.act.specs.Board.{sectorSize}
 use Rattle.info.specs.Info.{versionAt}
 use Rattle.act.proofs.LockedLaws.{told-alike}
 use Rattle.sending.specs.Answering.{hushed}
@@ -44,8 +45,8 @@ module _ (one other : Images) (alike : AlikeBoards one other) where
       ≡ versionAt (settingsOf other .shown .«version_pointer») (later other standing .memory .main)
   version-alike standing =
       let same = alike .version ∙ ap (λ (shown : Shown). versionAt (shown .«version_pointer») (other .main)) (sym (alike .shown)) in
-      versions-stay-alike _ (settingsOf one .protection) (one .main) (other .main) (alike .size) same (isStruck (alertOf one) standing)
-      ∙ ap₂ (λ (shown : Shown) (protection : List ℕ). versionAt (shown .«version_pointer») (imageThen (isStruck (shown .alert) standing) protection (other .main)))
+      versions-stay-alike _ (settingsOf one .protection) (one .main) (other .main) (alike .size) same (isStruck (alertOf one) (standing .wrong))
+      ∙ ap₂ (λ (shown : Shown) (protection : List ℕ). versionAt (shown .«version_pointer») (imageThen sectorSize (isStruck (shown .alert) (standing .wrong)) protection (other .main)))
       (alike .shown) (alike .protection)
 
   -- ---- one call
@@ -68,8 +69,8 @@ module _ (one other : Images) (alike : AlikeBoards one other) where
           replies = take-append-seam _ _ ∙ same ∙ sym (take-append-seam _ _);
           standing = refl;
           locked = shut;
-          oneFlash = flash-is-as-claimed one _ (judged .standing) _;
-          otherFlash = flash-is-as-claimed other _ (judged .standing) _;
+          oneFlash = flash-is-as-claimed one (judged .standing);
+          otherFlash = flash-is-as-claimed other (judged .standing);
         }
 
   module _ (standing : Standing) (together : Together one other standing) (sending : Sending) (without : WithoutPassword one other sending) where

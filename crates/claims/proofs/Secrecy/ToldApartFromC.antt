@@ -15,7 +15,7 @@ use Rattle.standing.specs.declared.Phase.the-variants.{Detect, Command, Standby
 use Rattle.standing.specs.declared.Standing.{Standing}
 use Rattle.standing.specs.Phases.{isUnlocked}
 use Rattle.layout.specs.Layout.{form1}
-use Rattle.settings.specs.Answer.{numbered}
+use Rattle.settings.specs.Answers.{numbered}
 use Rattle.settings.specs.Reader.{readOf}
 use Rattle.sessions.specs.declared.Session.{Session}
 use Rattle.loader.specs.Answers.{CallTold, Left}
@@ -28,8 +28,8 @@ use Rattle.numbers.specs.Stored.{Stored, stored, storedBy}
 use Rattle.rig.specs.Records.{recordSize, lockCode, standingBytes, recordOf}
 use Rattle.rig.specs.Boundary.{Called, storedAfter, calledFrom, calledAfter, callFromC}
 use Rattle.claims.specs.Held.{Held}
-use Rattle.claims.specs.TwoBoards.{Images, Running, settingsOf, started, AlikeBoards, Sending, called, next, replied, isStruck, Flash, Alike, AlikeThroughout}
-use Rattle.claims.specs.TwoBoardsFromC.{RunningFromC, startedOn, startedFromC, Lent, calledFromC, repliedFromC, standsFromC, lockIn, isStruckFromC, FlashFromC, AlikeFromC, AlikeCallsFromC, AlikeSessionsFromC}
+use Rattle.claims.specs.TwoBoards.{Images, Running, started, AlikeBoards, Sending, called, next, replied, Flash, Alike, AlikeThroughout}
+use Rattle.claims.specs.TwoBoardsFromC.{RunningFromC, startedOn, startedFromC, Lent, calledFromC, repliedFromC, standsFromC, lockIn, AlikeFromC, AlikeCallsFromC, AlikeSessionsFromC}
 use Rattle.claims.proofs.Sessions.CallRules.{every-start, valid-is-served, valid-stays-valid, started-is-valid, started-session}
 use Rattle.claims.proofs.Sessions.RecordRule.{decode-after-encode, encoded-is-record}
 use Rattle.claims.proofs.Secrecy.LockedBoard.{HasRecord}
@@ -106,10 +106,6 @@ lock-is-0 : (session : Session) → isUnlocked (session .standing .phase) ≡ fa
 unfolding recordOf
 lock-is-0 session shut = locked-says-0 (session .standing .phase) shut
 
-struck-is : (alert : ℕ) (session : Session) → isStruckFromC alert (recordOf session) ≡ isStruck alert (session .standing)
-unfolding isStruckFromC isStruck recordOf
-struck-is alert session = refl
-
 -- the top byte of a call's number is 0, and its low half is the size
 number-says : (burn : Bool) (size : ℕ) → size ≤ 1729 → (oneNumber 0 burn size < refusalUnit) × (oneNumber 0 burn size % burnUnit ≡ size)
 unfolding pick
@@ -118,19 +114,8 @@ number-says false size h = (omega arith, omega arith)
 
 -- ---- one call
 
--- what is claimed of a board's flash
-flash-from-C : (images : Images) (left : Left) → Flash images left → FlashFromC images (leftFromC left)
-flash-from-C images left flash =
-    let same = struck-is (settingsOf images .shown .alert) (left .session) in
-    record {
-      mainSize = flash .mainSize;
-      main = rw same (flash .main);
-      settingsSize = flash .settingsSize;
-      settings = rw same (flash .settings);
-    }
-
 -- the size of MAIN in a valid record is that at the start
-main-size-is : (images : Images) (left : Left) → Sound (next left) → Flash images left → left .session .«main_size» ≡ length (images .main)
+main-size-is : (images : Images) (left : Left) → Sound (next left) → Flash images (left .session .standing .wrong) (left .memory) → left .session .«main_size» ≡ length (images .main)
 main-size-is images left sound flash = sym (record-by-clauses _ _ _ (sound .valid) .main) ∙ flash .mainSize
 
 stands-alike : (one other : Session) → one .standing ≡ other .standing → one .«main_size» ≡ other .«main_size»
@@ -146,6 +131,7 @@ module _ (one other : Images) (size : length (one .main) ≡ length (other .main
   alike-from-C : Alike one other oneLeft otherLeft → Sound (next oneLeft) → Sound (next otherLeft)
       → oneLeft .answer .size ≤ 1729 → otherLeft .answer .size ≤ 1729
       → AlikeFromC one other (leftFromC oneLeft) (leftFromC otherLeft)
+  unfolding recordOf
   alike-from-C alike oneSound otherSound oneFits otherFits =
       let sizes = main-size-is one oneLeft oneSound (alike .oneFlash) ∙ size ∙ sym (main-size-is other otherLeft otherSound (alike .otherFlash)) in
       record {
@@ -154,8 +140,8 @@ module _ (one other : Images) (size : length (one .main) ≡ length (other .main
         replies = replied-is oneLeft oneFits ∙ alike .replies ∙ sym (replied-is otherLeft otherFits);
         stands = stands-alike (oneLeft .session) (otherLeft .session) (alike .standing) sizes;
         locked = lock-is-0 (oneLeft .session) (alike .locked);
-        oneFlash = flash-from-C one oneLeft (alike .oneFlash);
-        otherFlash = flash-from-C other otherLeft (alike .otherFlash);
+        oneFlash = alike .oneFlash;
+        otherFlash = alike .otherFlash;
       }
 
 -- ---- any list of calls

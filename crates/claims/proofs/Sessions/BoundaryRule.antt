@@ -16,7 +16,7 @@ use Rattle.layout.specs.Layout.{form1, imageSize}
 use Rattle.fields.specs.Bodies.{bodiesOf}
 use Rattle.fields.specs.Fields.{fieldsRead}
 use Rattle.settings.specs.Image.{imageOf}
-use Rattle.settings.specs.Answer.{Numbered, numbered, WriteLeft, writeLeft}
+use Rattle.settings.specs.Answers.{Numbered, numbered, WriteLeft, writeLeft}
 use Rattle.settings.specs.Reader.{readOf}
 use Rattle.settings.specs.Writer.{writeOf}
 use Rattle.regions.specs.Memory.{Memory}

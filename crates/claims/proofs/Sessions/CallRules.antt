@@ -1,24 +1,23 @@
 -- What holds of every start and of every call, over the definitions that `start` and `call` are proved to meet. That a refused call
--- changes nothing, and that no reply has more than 1,729 bytes, stands in the loader's own CallLaws.
+-- changes nothing, and that no reply has more than 1,729 bytes, stands in the loader's own CallLaws; which numbers there are, in NumberRule.
 use mathlib.Core.Path.{_≡_, refl, sym, ap, subst, _∙_}
 use mathlib.Core.Bool.{Bool, true, false, true≢false, not}
 use mathlib.Core.List.{List, _∷_}
-use mathlib.Core.Logic.{_⊎_, inl, inr}
 use Prim.Native.Nat.{ℕ, _≤_}
 use native.Mathlib.Omega.{arith}
 use borrow.Author.Tests.{le-ltb, eq-eqb, eqb-true, not-false}
-use lib.Dec.{ltb, eqb}
+use lib.Dec.{eqb}
 use lib.ListN.{length, getD}
 use Rattle.octets.specs.Choice.{pick}
 use Rattle.octets.proofs.Searching.{pick-false, pick-both, by-pick, by-test}
 use Rattle.wire.specs.Codes.{acknowledged, unlock, replyLimit}
 use Rattle.wire.specs.Packet.{passwordIn}
 use Rattle.wire.specs.declared.Command.the-variants.{Unlock}
-use Rattle.wire.specs.Acknowledgement.{acknowledgement}
+use Rattle.wire.specs.Acknowledgement.{isRate, acknowledgement}
 use Rattle.wire.specs.Commands.{commandOf}
 use Rattle.packets.proofs.PacketLaws.{unlock-is-password}
 use Rattle.standing.specs.declared.Phase.the-variants as phase
-use Rattle.standing.specs.Phases.{mostWrong}
+use Rattle.standing.specs.Phases.{atStart, mostWrong, isValid}
 use Rattle.waits.specs.Waits.{passTime}
 use Rattle.standing.proofs.PhaseLaws.{valid-by-parts, start-is-valid}
 use Rattle.waits.proofs.WaitLaws.{long-wait-is-heard}
@@ -26,7 +25,7 @@ use Rattle.values.specs.Values.{isAllowed, blankSettings}
 use Rattle.layout.specs.Layout.{imageSize, form1}
 use Rattle.layout.specs.Entries.{differingEntry}
 use Rattle.fields.specs.Bodies.{bodyIn, shownIn, settingsIn}
-use Rattle.settings.specs.Answer.{ReadTold, numbered}
+use Rattle.settings.specs.Answers.{ReadTold, numbered}
 use Rattle.settings.specs.Reader.{isBlank, checksumDiffers, formUnknown, fillerDiffers, valueNotAllowed, readWritten, readOf}
 use Rattle.regions.specs.Memory.{Memory}
 use Rattle.decisions.specs.declared.Judged.{Judged}
@@ -39,7 +38,7 @@ use Rattle.loader.specs.Answers.{Left}
 use Rattle.alike.specs.Alike.{areSame}
 use Rattle.regions.specs.Regions.{isMainSize}
 use Rattle.loader.specs.Records.{isRecord}
-use Rattle.sessions.specs.Starting.{sessionOf, startRead, startOf}
+use Rattle.sessions.specs.Starting.{sessionOf, noSession, startRead, startOf}
 use Rattle.loader.specs.Calling.{boardOf, judgement, serveOf, callOf}
 use Rattle.loader.proofs.CallLaws.{every-call}
 use Rattle.alike.proofs.AlikeLaws.{same-are-equal}
@@ -59,10 +58,6 @@ not-found packet password stranger fine asked =
     })))
     (λ n. n)
 
--- a call's number: 0 where it is done, 9 or 10 where it is refused
-abbrev pub Answered : ℕ → Type 0
-Answered number = (number ≡ 0) ⊎ ((number ≡ 9) ⊎ (number ≡ 10))
-
 module _ (session : Session) (before : Memory) (wait : ℕ) (packet area : List ℕ) where
   abbrev after : Left
   after = callOf session before wait packet area
@@ -70,14 +65,6 @@ module _ (session : Session) (before : Memory) (wait : ℕ) (packet area : List 
   -- a valid record, beside the images that are lent
   abbrev isValidRecord : Type 0
   isValidRecord = isRecord session (length (before .main)) (length (before .settings)) ≡ true
-
-  -- every call has an answer: it is done, or refused by 9 or by 10
-  pub call-is-answered : Answered (after .answer .number)
-  unfolding callOf serveOf
-  call-is-answered =
-      by-pick (λ (left : Left). Answered (left .answer .number)) (ltb (length area) replyLimit) _ _ (λ y. inr (inl refl))
-      (λ n. by-pick (λ (left : Left). Answered (left .answer .number)) (not (isRecord session (length (before .main)) (length (before .settings)))) _ _
-      (λ y. inr (inr refl)) (λ n. inl refl))
 
   -- both images keep their lengths
   pub call-keeps-lengths : (length (after .memory .main) ≡ length (before .main)) × (length (after .memory .settings) ≡ length (before .settings))
@@ -159,6 +146,11 @@ module _ (image : List ℕ) where
       by-pick Promise (not (eqb (length image) imageSize)) _ _ (λ y e. absurd (omega arith))
       (λ n. let size = eqb-true _ _ (not-false _ n) in
       by-pick Promise (isBlank image) _ _ (λ y e. (blank-is-allowed, size)) (λ n. written-promises size))
+
+-- what stands beside a refused start is refused by every call
+pub no-session-is-refused : (main settings : ℕ) → isRecord noSession main settings ≡ false
+unfolding isRecord isValid isRate atStart isAllowed pick
+no-session-is-refused main settings = refl
 
 -- what start tells where it is not refused
 abbrev pub startsAs : Session → StartTold

@@ -19,7 +19,7 @@ use Rattle.standing.proofs.PhaseLaws.{valid-by-parts}
 use Rattle.layout.specs.Layout.{form1, imageSize, offsetOf, sumOf}
 use Rattle.layout.specs.Entries.{differingEntry}
 use Rattle.fields.specs.Bodies.{shownIn, settingsIn}
-use Rattle.settings.specs.Answer.{ReadTold}
+use Rattle.settings.specs.Answers.{ReadTold}
 use Rattle.settings.specs.Reader.{isBlank, checksumDiffers, formUnknown, fillerDiffers, valueNotAllowed, readWritten, readOf}
 use Rattle.sessions.specs.declared.Session.{Session}
 use Rattle.loader.specs.Records.{isRecord}

@@ -20,7 +20,7 @@ use Rattle.fields.specs.Bodies.{bodiesOf}
 use Rattle.fields.specs.Fields as fields
 use Rattle.sessions.specs.declared.Session.{Session}
 use Rattle.numbers.specs.FieldsArea.{fieldsSize, zeroAt}
-use Rattle.rig.specs.Records.{recordSize, fieldsAt, unusedAt, phaseCode, lockCode, sleepOf, recordOf, phaseIn, standingIn, sessionIn, phaseFits, isRecordArea}
+use Rattle.rig.specs.Records.{recordSize, fieldsAt, phaseCode, lockCode, sleepOf, recordOf, phaseIn, standingIn, sessionIn, phaseFits, isRecordArea}
 use Rattle.rig.proofs.RecordAgain.{encode-after-decode}
 use Rattle.claims.specs.Held.{HeldSession}
 use Rattle.claims.proofs.Settings.FieldsRule.{read-after-made, fields-size, made-unused}
@@ -99,10 +99,6 @@ fields-are-bodies = refl
 pub zero-ends-body-3 : zeroAt + 1 ≡ offsetOf form1 3 - tableEnd form1 + lengthOf form1 3
 unfolding offsetOf sumOf
 zero-ends-body-3 = refl
-
--- and stands in the record after the sixteen bytes before the fields
-pub unused-is-zero-byte : unusedAt ≡ fieldsAt + zeroAt
-unused-is-zero-byte = refl
 
 pub record-ends-with-fields : recordSize ≡ fieldsAt + fieldsSize
 record-ends-with-fields = refl

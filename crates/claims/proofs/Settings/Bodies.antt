@@ -1,7 +1,7 @@
 -- The bodies of some settings, where they stand from byte 52 on: read, they say the settings; of what is read, they are made again.
 use mathlib.Core.Path.{_≡_, refl, _∙_}
 use mathlib.Core.List.{List, _++_, append-assoc}
-use Prim.Native.Nat.{ℕ, _+_}
+use Prim.Native.Nat.{ℕ}
 use lib.ListN.{length, getD, drop}
 use Rattle.octets.specs.Number.{bytesOf, part, numberAt}
 use Rattle.octets.proofs.Numbers.{length-bytesOf, number-of-bytes}

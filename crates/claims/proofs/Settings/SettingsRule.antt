@@ -19,7 +19,7 @@ use Rattle.layout.specs.Entries.{differingEntry}
 use Rattle.fields.specs.Bodies.{settingsIn}
 use Rattle.values.specs.Values.{isAllowed, blankSettings, noSettings}
 use Rattle.settings.specs.Image.{imageOf}
-use Rattle.settings.specs.Answer.{ReadTold, accepted, refused, refusedAt, writeLeft}
+use Rattle.settings.specs.Answers.{ReadTold, accepted, refused, refusedAt, writeLeft}
 use Rattle.settings.specs.Reader.{isBlank, checksumDiffers, formUnknown, fillerDiffers, valueNotAllowed, readWritten, readOf}
 use Rattle.settings.specs.Writer.{writeOf}
 use Rattle.claims.specs.Held.{Held}

@@ -2,7 +2,7 @@
 use mathlib.Core.Path.{_≡_, refl, ap, _∙_}
 use mathlib.Core.Bool.{true, false}
 use mathlib.Core.List.{List, [], _∷_, _++_, append-assoc}
-use Prim.Native.Nat.{ℕ, _+_, _-_, _*_, _≤_, _<_}
+use Prim.Native.Nat.{ℕ, _-_, _*_, _≤_, _<_}
 use native.Mathlib.Omega.{arith}
 use borrow.Author.Tests.{eq-eqb, leb-true}
 use lib.Dec.{ltb, leb, ltb→lt}
@@ -27,7 +27,7 @@ use Rattle.layout.proofs.TableLaws.{length-table, length-pairs}
 use Rattle.fields.specs.Bodies.{valuesOf, numbersOf, bodiesOf}
 use Rattle.values.specs.Values.{isAllowed}
 use Rattle.settings.specs.Image.{fillerOf, frontOf, imageOf}
-use Rattle.settings.specs.Answer.{accepted}
+use Rattle.settings.specs.Answers.{accepted}
 use Rattle.settings.specs.Reader.{checksumDiffers, formUnknown, fillerDiffers, valueNotAllowed, readWritten, readOf}
 use Rattle.settings.proofs.WriterLaws.{length-front}
 use Rattle.claims.specs.Held.{Held}

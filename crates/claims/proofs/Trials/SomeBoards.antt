@@ -12,7 +12,7 @@ use Rattle.octets.proofs.Parts.{each-replicate}
 use Rattle.values.specs.declared.Settings.{Settings}
 use Rattle.values.specs.Values.{isAllowed, blankSettings}
 use Rattle.layout.specs.Layout.{form1}
-use Rattle.settings.specs.Answer.{ReadTold, accepted}
+use Rattle.settings.specs.Answers.{ReadTold, accepted}
 use Rattle.settings.specs.Reader.{readOf}
 use Rattle.decisions.specs.Unlocking.{alertReset}
 use Rattle.info.specs.Info.{versionAt}

@@ -15,7 +15,7 @@ use Rattle.wire.specs.Acknowledgement.{acknowledgement}
 use Rattle.wire.specs.Commands.{lengthFits, openOf, commandOf}
 use Rattle.standing.specs.declared.Phase.the-variants.{Command}
 use Rattle.standing.specs.declared.Standing.{Standing}
-use Rattle.standing.specs.Phases.{firstRate, mostSleep, atStart}
+use Rattle.standing.specs.Phases.{rateIdAtStart, mostSleep, atStart}
 use Rattle.waits.specs.Waits.{isIdleTooLong, detectIdles, commandIdles, passTime}
 use Rattle.decisions.specs.Unlocking.{countedUp, alertReset, alerted, triedWrong, tried}
 use Rattle.judge.specs.Hearing.{stirred, heardInDetect, heardInCommand, heardAfter, judgedOf}
@@ -55,7 +55,7 @@ module _ (byte : ℕ) where
 
 -- locked, with so much sleep left, after so many wrong passwords
 abbrev pub stood : ℕ → ℕ → Standing
-stood sleep wrong = record { phase = Command false sleep; idle = 0; wrong = wrong; rate = firstRate }
+stood sleep wrong = record { phase = Command false sleep; idle = 0; wrong = wrong; rate = rateIdAtStart }
 
 -- Connect ends detect
 pub connect-connects : (alert : ℕ) (right : Bool) → judgedOf atStart alert 2000 (connects .packet) right .standing ≡ stood 0 0

@@ -19,7 +19,7 @@ use Rattle.replies.proofs.ReplyLaws.{message-bytes}
 use Rattle.standing.specs.declared.Standing.{Standing}
 use Rattle.standing.specs.Phases.{mostSleep, atStart}
 use Rattle.values.specs.declared.Settings.{Settings}
-use Rattle.settings.specs.Answer.{ReadTold}
+use Rattle.settings.specs.Answers.{ReadTold}
 use Rattle.regions.specs.Memory.{Memory, memory}
 use Rattle.sectors.specs.Protection.{isProtected}
 use Rattle.sectors.proofs.ErasingLaws.{erase-all-of-open}
@@ -27,7 +27,7 @@ use Rattle.decisions.specs.declared.Effect.the-variants.{Say}
 use Rattle.decisions.specs.Judgement.{says}
 use Rattle.decisions.specs.Unlocking.{alertReset, tried}
 use Rattle.judge.specs.Hearing.{judgedOf}
-use Rattle.act.specs.Memory.{sectorSize, settingsProtection}
+use Rattle.act.specs.Board.{sectorSize, settingsProtection}
 use Rattle.sending.specs.Answering.{hushed}
 use Rattle.sending.proofs.AnsweringLaws.{others-are-told, answer-is-whole}
 use Rattle.sessions.specs.declared.Session.{Session}
@@ -138,7 +138,7 @@ none-protected : (count sector : ℕ) → isProtected (replicate count 0) sector
 unfolding isProtected
 none-protected count sector = rw (no-bit count 0 (sector / 8), zero-div)
 
-all-erased : (count : ℕ) (protection image : List ℕ) → protection ≡ replicate count 0 → imageThen true protection image ≡ replicate (length image) 0xFF
+all-erased : (count : ℕ) (protection image : List ℕ) → protection ≡ replicate count 0 → imageThen sectorSize true protection image ≡ replicate (length image) 0xFF
 unfolding imageThen pick
 all-erased count protection image none =
     erase-all-of-open sectorSize protection image (omega arith)
@@ -160,7 +160,7 @@ module _ (byte main : ℕ) (small : byte < 256) (other : 0x33 ≡ byte → ⊥) 
       let second = guess strict _ good _ _ first 0x33 other _ (second-is-counted 0x33 (omega arith) (alertOf strict)) in
       guess strict _ good _ _ second 0x33 other _ (rw resets (third-is-counted 0x33 (omega arith)))
 
-  struck : isStruck (alertOf strict) (stood mostSleep 3) ≡ true
+  struck : isStruck (alertOf strict) 3 ≡ true
   unfolding isStruck pick
   struck = rw resets
 

@@ -6,7 +6,7 @@ use lib.ListN.{length}
 use Rattle.octets.specs.Choice.{pick}
 use Rattle.layout.specs.Layout.{form1}
 use Rattle.settings.specs.Image.{frontOf, imageOf}
-use Rattle.settings.specs.Answer.{writeLeft}
+use Rattle.settings.specs.Answers.{writeLeft}
 use Rattle.settings.specs.Writer.{writeOf}
 use Rattle.settings.proofs.WriterLaws.{length-front, sealed-made}
 use Rattle.settings.proofs.writer.write.Statement.{statement}

@@ -1,7 +1,7 @@
--- `act::memory::locate` meets its contract: the part is that of document 004.
+-- `act::part::locate` meets its contract: the part is that of document 004.
 use borrow.Author.Needs.{needs}
-use Rattle.act.proofs.memory.locate.Statement.{statement}
-use Rattle.act.proofs.memory.locate.Tie as tie
+use Rattle.act.proofs.part.locate.Statement.{statement}
+use Rattle.act.proofs.part.locate.Tie as tie
 
 pub locate-spec : {M : Type 1} → statement M
 locate-spec =

@@ -1,4 +1,4 @@
--- What an act leaves of memory, what the settings let be done to it, and the numbers of the part.
+-- What the settings let be done to a board, what an act leaves of it, and the numbers of the part.
 use Prim.Native.Nat.{ℕ}
 use mathlib.Core.List.{List, [], _∷_}
 use Rattle.replies.specs.declared.Reply.{Reply}
