@@ -14,14 +14,21 @@
  * Duties of the caller:
  *  - each pointer has as many bytes behind it as its size says, and none is NULL where the size is above 0;
  *  - the areas of one call do not overlap;
- *  - each call is lent the record that the call before it left, and no older copy;
+ *  - each call is lent the record that the call before it left, and both flash areas as that call left them;
  *  - the wait of a refused call is added to the next wait, for the record has not moved;
- *  - a reply is sent at the rate that the record had before the call, and the next one at the rate it has after it;
- *  - where an answer says so, the board burns its fuse, and says so to every later start.
+ *  - a reply is sent at the rate that the record had before the call, and the next packet is received at the rate it
+ *    has after it;
+ *  - where an answer says so, the board burns its fuse, and says so to every later start;
+ *  - only the bytes of a reply leave the board: a record holds both passwords;
+ *  - one record is one session: who starts again gets a new count of wrong passwords.
  */
 
+#ifdef __cplusplus
+extern "C" {
+#endif
+
 #define BHORELMU_SETTINGS_SIZE 1024u
-#define BHORELMU_PACKET_LARGEST 1728u
+#define BHORELMU_PACKET_LARGEST 1728u /* a longer one is not refused, but answered by an error */
 #define BHORELMU_REPLY_SIZE 1729u /* a reply area has at least so many bytes */
 #define BHORELMU_RECORD_SIZE 90u
 #define BHORELMU_FIELDS_SIZE 74u
@@ -64,9 +71,9 @@ uint64_t bhorelmu_start(uint32_t fuse, const uint8_t *main_flash, size_t main_si
                         size_t settings_size, uint8_t *record, size_t record_size);
 
 /*
- * Lets `wait` milliseconds pass, then takes one packet, perhaps empty, and updates the record. Refusals 9, then 10 for
- * an area that is no record's, for a MAIN of another size than the record says, and for settings that are not 1,024
- * bytes. Bytes past the reply stay as lent.
+ * Lets `wait` milliseconds pass since the call before, or since start, then takes one packet, perhaps empty, and updates
+ * the record and both flash areas. Refusals 9, then 10 for an area that is no record's, for a MAIN of another size than
+ * the record says, and for settings that are not 1,024 bytes. Bytes past the reply stay as lent.
  */
 uint64_t bhorelmu_call(uint8_t *record, size_t record_size, uint8_t *main_flash, size_t main_size, uint8_t *settings,
                        size_t settings_size, uint32_t wait, const uint8_t *packet, size_t packet_size, uint8_t *reply,
@@ -110,5 +117,9 @@ static inline uint32_t bhorelmu_entry(uint64_t answer)
 {
     return (uint32_t)answer;
 }
+
+#ifdef __cplusplus
+}
+#endif
 
 #endif

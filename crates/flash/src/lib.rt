@@ -30,7 +30,7 @@ fn program_sector(memory: &mut [u8], sector_size: usize, protection: &[u8], at: 
     and_into(&mut memory[at..end], bytes);
 }
 
-// Programs bytes from a place on, as far as the memory reaches: sector by sector.
+// Programs bytes from a place on, as far as the memory reaches, sector by sector; protected sectors keep their bytes.
 pub fn program(memory: &mut [u8], sector_size: usize, protection: &[u8], at: usize, bytes: &[u8])
     ensures { λ _. ⌜ now (memory .exit) ≡ programOf «sector_size» (now (protection .entry)) at (now (bytes .entry)) (now (memory .entry)) ⌝ }
 {

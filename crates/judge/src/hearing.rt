@@ -18,11 +18,7 @@ use wire::codes;
 fn silently(standing: Standing) -> Judged
     ensures { λ r. ⌜ r ≡ silently standing ⌝ }
 {
-    Judged {
-        standing,
-        effect: Effect::Say(Reply::Silence),
-        burn: false,
-    }
+    judgement::judged(standing, Effect::Say(Reply::Silence))
 }
 
 // The command phase, locked.

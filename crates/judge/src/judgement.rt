@@ -20,19 +20,11 @@ pub(crate) fn judged(standing: Standing, effect: Effect) -> Judged
 pub(crate) fn acknowledges(standing: Standing, code: u8) -> Judged
     ensures { λ r. ⌜ r ≡ says standing (Acknowledged code) ⌝ }
 {
-    Judged {
-        standing,
-        effect: Effect::Say(Reply::Acknowledged(code)),
-        burn: false,
-    }
+    judged(standing, Effect::Say(Reply::Acknowledged(code)))
 }
 
 pub(crate) fn tells(standing: Standing, code: u8) -> Judged
     ensures { λ r. ⌜ r ≡ says standing (Message code) ⌝ }
 {
-    Judged {
-        standing,
-        effect: Effect::Say(Reply::Message(code)),
-        burn: false,
-    }
+    judged(standing, Effect::Say(Reply::Message(code)))
 }

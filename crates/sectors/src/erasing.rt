@@ -18,7 +18,7 @@ fn erase_sector(memory: &mut [u8], sector_size: usize, protection: &[u8], sector
     stores::fill(&mut memory[start..end], 0xFF);
 }
 
-// Erases the sectors from first to last, as far as the memory reaches.
+// Erases the sectors from first to last, as far as the memory reaches; those that are protected keep their bytes.
 pub fn erase(memory: &mut [u8], sector_size: usize, protection: &[u8], first: usize, last: usize)
     ensures { λ _. ⌜ now (memory .exit) ≡ eraseOf «sector_size» (now (protection .entry)) first last (now (memory .entry)) ⌝ }
 {
@@ -37,7 +37,7 @@ pub fn erase(memory: &mut [u8], sector_size: usize, protection: &[u8], first: us
     }
 }
 
-// Erases every sector.
+// Erases every sector that is not protected.
 pub fn erase_all(memory: &mut [u8], sector_size: usize, protection: &[u8])
     ensures { λ _. ⌜ now (memory .exit) ≡ eraseAllOf «sector_size» (now (protection .entry)) (now (memory .entry)) ⌝ }
 {

@@ -72,8 +72,8 @@ fn bytes_asked<'a>(effect: Effect, main_size: u32, main: &'a [u8], image: &'a [u
     bytes_of_task(task, main_size, main, image)
 }
 
-// Writes what is sent of a reply to the start of an area, and answers its size. A reply for which there is no room is not written
-// at all, and the answer is 0.
+// Writes what is sent of a reply to the start of an area, and answers its size. A reply for which there is no room, or of more than
+// 1,729 bytes, is not written at all, and the answer is 0.
 pub fn answer<'a>(
     effect: Effect,
     reply: Reply,

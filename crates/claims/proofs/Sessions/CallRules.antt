@@ -1,4 +1,4 @@
--- What holds of every start and of every call, over the definitions that `start` and `call` are proved to meet. That a refused call
+-- Demand 1 and 2: what holds of every start and of every call, over the definitions that `start` and `call` are proved to meet. That a refused call
 -- changes nothing, and that no reply has more than 1,729 bytes, stands in the loader's own CallLaws; which numbers there are, in NumberRule.
 use mathlib.Core.Path.{_≡_, refl, sym, ap, subst, _∙_}
 use mathlib.Core.Bool.{Bool, true, false, true≢false, not}
