@@ -9,7 +9,7 @@ use Rattle.wire.specs.declared.Guarded.the-variants as guarded
 use Rattle.decisions.specs.declared.Effect.{Effect}
 use Rattle.decisions.specs.declared.Effect.the-variants.{Say, TellInfo, Strike, Perform}
 use Rattle.regions.specs.Memory.{Memory}
-use Rattle.info.specs.Info.{infoReply}
+use Rattle.info.specs.Info.{infoTold}
 use Rattle.act.specs.Board.{Acted, acted, tells, Board}
 use Rattle.act.specs.Erasing.{rangeErase, massErase, factoryReset, struck}
 use Rattle.act.specs.Programming.{program}
@@ -28,6 +28,6 @@ performed board right packet before guarded.WrongLength = tells codes.wrongLengt
 -- what was decided is done; the bit is whether the packet carries the reset password
 abbrev pub actOf : Board → Bool → List ℕ → Memory → Effect → Acted
 actOf board right packet before (Say reply) = acted reply before
-actOf board right packet before TellInfo = acted (infoReply (board .shown) (before .main)) before
+actOf board right packet before TellInfo = acted (infoTold (board .shown) (before .main)) before
 actOf board right packet before Strike = struck board before
 actOf board right packet before (Perform task) = performed board right packet before task

@@ -19,5 +19,5 @@ versionAt pointer main =
     pick (eqb (pointer % versionSize) 0) (pick (leb (pointer + versionSize) (length main)) (numberAt pointer versionSize main) 0) 0
 
 -- "version (4) .. BCR id, BSL id"
-abbrev pub infoReply : Shown → List ℕ → Reply
-infoReply shown main = Info (versionAt (shown .«version_pointer») main) (shown .«bcr_id») (shown .«bsl_id»)
+abbrev pub infoTold : Shown → List ℕ → Reply
+infoTold shown main = Info (versionAt (shown .«version_pointer») main) (shown .«bcr_id») (shown .«bsl_id»)

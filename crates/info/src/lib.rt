@@ -1,6 +1,6 @@
 // What Info tells of the board: the version, and the two ids.
 ghost use mathlib.Core.Path.{_≡_};
-ghost use Rattle.info.specs.Info.{versionAt, infoReply};
+ghost use Rattle.info.specs.Info.{versionAt, infoTold};
 use replies::Reply;
 use values::Shown;
 
@@ -21,7 +21,7 @@ fn version_at(pointer: u32, main: &[u8]) -> u32
 
 // The version is read in MAIN; all else is among the settings that may be shown.
 pub fn info(shown: Shown, main: &[u8]) -> Reply
-    ensures { λ r. ⌜ r ≡ infoReply shown (now (main .entry)) ⌝ }
+    ensures { λ r. ⌜ r ≡ infoTold shown (now (main .entry)) ⌝ }
 {
     Reply::Info {
         version: version_at(shown.version_pointer, main),

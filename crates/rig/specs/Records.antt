@@ -13,7 +13,7 @@ use Rattle.layout.specs.Layout.{form1}
 use Rattle.fields.specs.Bodies.{bodiesOf}
 use Rattle.fields.specs.Fields.{fieldsRead}
 use Rattle.sessions.specs.declared.Session.{Session}
-use Rattle.numbers.specs.FieldsArea.{fieldsSize, zeroAt}
+use Rattle.numbers.specs.FieldsArea.{fieldsAreaSize, zeroAt}
 
 -- a record has 90 bytes: phase, lock, wrong count and rate id; then sleep, idle and the size of MAIN, four bytes each; then the settings' fields
 abbrev pub recordSize : ℕ
@@ -89,7 +89,7 @@ unfoldable pub sessionIn : List ℕ → Session
 sessionIn area = record {
   standing = standingIn area;
   «main_size» = numberAt mainSizeAt 4 area;
-  settings = fieldsRead form1 (part fieldsAt fieldsSize area);
+  settings = fieldsRead form1 (part fieldsAt fieldsAreaSize area);
 }
 
 -- ---- which bytes are a record's

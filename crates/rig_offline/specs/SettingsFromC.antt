@@ -13,17 +13,17 @@ use Rattle.settings.specs.Reader.{readOf}
 use Rattle.settings.specs.Writer.{writeOf}
 use Rattle.numbers.specs.OneNumber.{refusal}
 use Rattle.numbers.specs.Stored.{Stored, stored, storedBy}
-use Rattle.numbers.specs.FieldsArea.{fieldsSize, zeroAt}
+use Rattle.numbers.specs.FieldsArea.{fieldsAreaSize, zeroAt}
 
 -- the reader stores the fields of what it read
 abbrev pub readFromC : List ℕ → List ℕ → Stored
 readFromC image area =
-    storedBy (numbered (readOf form1 image .number) (readOf form1 image .entry)) fieldsSize (bodiesOf (readOf form1 image .settings)) area
+    storedBy (numbered (readOf form1 image .number) (readOf form1 image .entry)) fieldsAreaSize (bodiesOf (readOf form1 image .settings)) area
 
 -- "the writer 3 then 8"; between them 10, for fields of another size
 unfoldable pub writeFromC : List ℕ → List ℕ → Stored
 writeFromC fields image =
     pick (not (eqb (length image) imageSize)) (stored (refusal 3) image)
-    (pick (not (eqb (length fields) fieldsSize)) (stored (refusal 10) image)
+    (pick (not (eqb (length fields) fieldsAreaSize)) (stored (refusal 10) image)
     (pick (not (eqb (getD fields zeroAt 0) 0)) (stored (refusal 8) image)
     (stored (refusal (writeOf form1 (fieldsRead form1 fields) image .number)) (writeOf form1 (fieldsRead form1 fields) image .image))))

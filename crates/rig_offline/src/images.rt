@@ -3,14 +3,14 @@ ghost use mathlib.Core.Path.{_≡_};
 ghost use Rattle.fields.specs.Bodies.{bodiesOf};
 ghost use Rattle.settings.specs.Answers.{readNumbered};
 ghost use Rattle.numbers.specs.Stored.{stored, storedBy};
-ghost use Rattle.numbers.specs.FieldsArea.{fieldsSize};
+ghost use Rattle.numbers.specs.FieldsArea.{fieldsAreaSize};
 ghost use Rattle.rig_offline.specs.SettingsFromC.{readFromC, writeFromC};
 use crate::answers;
 use settings::Reading;
 
 // Stores the fields of settings that were read.
 fn store_fields(reading: Reading, area: &mut [u8]) -> u64
-    ensures { λ r. ⌜ stored r (now (area .exit)) ≡ storedBy (readNumbered (reading .answer)) fieldsSize (bodiesOf (reading .settings)) (now (area .entry)) ⌝ }
+    ensures { λ r. ⌜ stored r (now (area .exit)) ≡ storedBy (readNumbered (reading .answer)) fieldsAreaSize (bodiesOf (reading .settings)) (now (area .entry)) ⌝ }
 {
     let answer = reading.answer;
     let refusal = answers::of_read(answer);

@@ -38,7 +38,7 @@ use Rattle.regions.specs.Memory.{memory, bytesIn}
 use Rattle.sectors.specs.Protection.{isProtected}
 use Rattle.sectors.specs.Erasing.{eraseOf, eraseAllOf}
 use Rattle.flash.specs.Programming.{programOf}
-use Rattle.info.specs.Info.{infoReply}
+use Rattle.info.specs.Info.{infoTold}
 use Rattle.decisions.specs.declared.Effect.{Effect}
 use Rattle.decisions.specs.Unlocking.{tried}
 use Rattle.judge.specs.Hearing.{judgedOf}
@@ -236,8 +236,8 @@ judge-is-one standing alert wait packet right = as-said (judgedOf standing alert
 
 -- ---- info
 
-pub info-is-one : (shown : Shown) (main : List ℕ) → OneAnswer (λ r. r ≡ infoReply shown main)
-info-is-one shown main = as-said (infoReply shown main)
+pub info-is-one : (shown : Shown) (main : List ℕ) → OneAnswer (λ r. r ≡ infoTold shown main)
+info-is-one shown main = as-said (infoTold shown main)
 
 -- ---- act
 

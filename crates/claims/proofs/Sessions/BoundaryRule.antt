@@ -22,7 +22,7 @@ use Rattle.settings.specs.Writer.{writeOf}
 use Rattle.regions.specs.Memory.{Memory}
 use Rattle.numbers.specs.OneNumber.{refusalUnit, burnUnit, oneNumber, refusal, refusalOf}
 use Rattle.numbers.specs.Stored.{Stored, storedBy}
-use Rattle.numbers.specs.FieldsArea.{fieldsSize, zeroAt}
+use Rattle.numbers.specs.FieldsArea.{fieldsAreaSize, zeroAt}
 use Rattle.rig_offline.specs.SettingsFromC.{readFromC, writeFromC}
 use Rattle.loader.specs.Answers.{Left}
 use Rattle.loader.specs.Calling.{callOf}
@@ -52,7 +52,7 @@ refused-start-keeps fuse main settings area =
 
 pub refused-read-keeps : (image area : List ℕ) → Kept area (readFromC image area)
 refused-read-keeps image area =
-    storing-keeps (numbered (readOf form1 image .number) (readOf form1 image .entry)) fieldsSize (bodiesOf (readOf form1 image .settings)) area
+    storing-keeps (numbered (readOf form1 image .number) (readOf form1 image .entry)) fieldsAreaSize (bodiesOf (readOf form1 image .settings)) area
 
 -- ---- the settings writer
 
@@ -69,7 +69,7 @@ pub refused-write-keeps : (fields image : List ℕ) → Kept image (writeFromC f
 unfolding writeFromC pick
 refused-write-keeps fields image =
     by-pick (Kept image) (not (eqb (length image) imageSize)) _ _ (λ y h. refl)
-    (λ n. by-pick (Kept image) (not (eqb (length fields) fieldsSize)) _ _ (λ y h. refl)
+    (λ n. by-pick (Kept image) (not (eqb (length fields) fieldsAreaSize)) _ _ (λ y h. refl)
     (λ n. by-pick (Kept image) (not (eqb (getD fields zeroAt 0) 0)) _ _ (λ y h. refl)
     (λ n h. writer-keeps (fieldsRead form1 fields) image (λ e. omega arith))))
 

@@ -31,7 +31,7 @@ use Rattle.loader.specs.Calling.{serveOf, callOf}
 use Rattle.loader.proofs.CallLaws.{call-size-fits}
 use Rattle.numbers.specs.OneNumber.{refusalUnit, burnUnit, oneNumber, refusal, refusalOf}
 use Rattle.numbers.specs.Stored.{Stored, storedBy}
-use Rattle.numbers.specs.FieldsArea.{fieldsSize, zeroAt}
+use Rattle.numbers.specs.FieldsArea.{fieldsAreaSize, zeroAt}
 use Rattle.rig_offline.specs.SettingsFromC.{readFromC, writeFromC}
 use Rattle.rig.specs.Records.{recordSize, recordOf, sessionIn, isRecordArea}
 use Rattle.rig.specs.Boundary.{startByFuse, startFromC, Called, storedAfter, calledFrom, callFromC}
@@ -151,14 +151,14 @@ start-is-answered-from-C fuse main settings area =
 pub read-is-answered-from-C : (image area : List ℕ) → IsOneOf (10 ∷ readNumbers) (refusalIn (readFromC image area .answer))
 unfolding isOneOf pick
 read-is-answered-from-C image area =
-    storing-is-answered readNumbers (numbered (readOf form1 image .number) (readOf form1 image .entry)) fieldsSize (bodiesOf (readOf form1 image .settings)) area refl
+    storing-is-answered readNumbers (numbered (readOf form1 image .number) (readOf form1 image .entry)) fieldsAreaSize (bodiesOf (readOf form1 image .settings)) area refl
     (read-is-answered image)
 
 pub write-is-answered-from-C : (fields image : List ℕ) → IsOneOf (10 ∷ writeNumbers) (refusalIn (writeFromC fields image .answer))
 unfolding writeFromC isOneOf pick
 write-is-answered-from-C fields image =
     by-pick Well (not (eqb (length image) imageSize)) _ _ (λ y. refl)
-    (λ n. by-pick Well (not (eqb (length fields) fieldsSize)) _ _ (λ y. refl)
+    (λ n. by-pick Well (not (eqb (length fields) fieldsAreaSize)) _ _ (λ y. refl)
     (λ n. by-pick Well (not (eqb (getD fields zeroAt 0) 0)) _ _ (λ y. refl)
     (λ n. one-of-more 10 writeNumbers (refusalIn (refusal written))
     (subst (IsOneOf writeNumbers) (sym (refusal-is (numbered written 0) (omega arith))) (write-is-answered (fieldsRead form1 fields) image)))))

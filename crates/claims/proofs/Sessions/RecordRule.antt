@@ -19,7 +19,7 @@ use Rattle.layout.specs.Layout.{form1, lengthOf, offsetOf, sumOf, tableEnd}
 use Rattle.fields.specs.Bodies.{bodiesOf}
 use Rattle.fields.specs.Fields as fields
 use Rattle.sessions.specs.declared.Session.{Session}
-use Rattle.numbers.specs.FieldsArea.{fieldsSize, zeroAt}
+use Rattle.numbers.specs.FieldsArea.{fieldsAreaSize, zeroAt}
 use Rattle.rig.specs.Records.{recordSize, fieldsAt, phaseCode, lockCode, sleepOf, recordOf, phaseIn, standingIn, sessionIn, phaseFits, isRecordArea}
 use Rattle.rig.proofs.RecordAgain.{encode-after-decode}
 use Rattle.claims.specs.Held.{HeldSession}
@@ -91,7 +91,7 @@ one-area one other each each₂ known known₂ e =
 -- ---- the numbers of the record's layout, from those of the image's
 
 -- the fields are the bodies
-pub fields-are-bodies : fieldsSize ≡ fields.fieldsSize form1
+pub fields-are-bodies : fieldsAreaSize ≡ fields.fieldsSize form1
 unfolding offsetOf sumOf
 fields-are-bodies = refl
 
@@ -100,5 +100,5 @@ pub zero-ends-body-3 : zeroAt + 1 ≡ offsetOf form1 3 - tableEnd form1 + length
 unfolding offsetOf sumOf
 zero-ends-body-3 = refl
 
-pub record-ends-with-fields : recordSize ≡ fieldsAt + fieldsSize
+pub record-ends-with-fields : recordSize ≡ fieldsAt + fieldsAreaSize
 record-ends-with-fields = refl
