@@ -18,7 +18,8 @@
  *  - the wait of a refused call is added to the next wait, for the record has not moved;
  *  - a reply is sent at the rate that the record had before the call, and the next packet is received at the rate it
  *    has after it;
- *  - where an answer says so, the board burns its fuse, and says so to every later start;
+ *  - where an answer says so, the board burns its fuse before it sends the reply, and says so to every later start;
+ *  - the stack suffices: no proof bounds it, and a checksum of 40 bytes or more puts 4,096 bytes there;
  *  - only the bytes of a reply leave the board: a record holds both passwords;
  *  - one record is one session: who starts again gets a new count of wrong passwords.
  */
@@ -28,7 +29,7 @@ extern "C" {
 #endif
 
 #define BHORELMU_SETTINGS_SIZE 1024u
-#define BHORELMU_PACKET_LARGEST 1728u /* a longer one is not refused, but answered by an error */
+#define BHORELMU_PACKET_LARGEST 1728u /* a longer one is not refused: in the command phase an error answers it */
 #define BHORELMU_REPLY_SIZE 1729u /* a reply area has at least so many bytes */
 #define BHORELMU_RECORD_SIZE 90u
 #define BHORELMU_FIELDS_SIZE 74u

@@ -1,4 +1,4 @@
-/* Starts a board of 4,096 blank bytes with blank settings, connects, asks for Info and prints the replies in hex. */
+/* A whole session with a board of 4,096 blank bytes and blank settings: what is sent, and the replies in hex. */
 
 #include "bhorelmu.h"
 
@@ -9,6 +9,16 @@ struct board {
     uint8_t main_flash[4096];
     uint8_t settings[BHORELMU_SETTINGS_SIZE];
     uint8_t record[BHORELMU_RECORD_SIZE];
+};
+
+static const struct { const char *name; size_t size; uint8_t packet[40]; } sent[] = {
+    {"Connect", 8, {0x80, 0x01, 0x00, 0x12, 0x3A, 0x61, 0x44, 0xDE}},
+    {"Info", 8, {0x80, 0x01, 0x00, 0x19, 0xB2, 0xB8, 0x96, 0x49}},
+    {"Unlock", 40, {0x80, 0x21, 0x00, 0x21, 0xFF, 0xFF, 0xFF, 0xFF, 0xFF, 0xFF, 0xFF, 0xFF, 0xFF, 0xFF,
+                    0xFF, 0xFF, 0xFF, 0xFF, 0xFF, 0xFF, 0xFF, 0xFF, 0xFF, 0xFF, 0xFF, 0xFF, 0xFF, 0xFF,
+                    0xFF, 0xFF, 0xFF, 0xFF, 0xFF, 0xFF, 0xFF, 0xFF, 0x02, 0xAA, 0xF0, 0x3D}},
+    {"Mass erase", 8, {0x80, 0x01, 0x00, 0x15, 0x99, 0xF4, 0x20, 0x40}},
+    {"Start", 8, {0x80, 0x01, 0x00, 0x40, 0xE2, 0x51, 0x21, 0x5B}},
 };
 
 static int start(struct board *board)
@@ -22,30 +32,26 @@ static int start(struct board *board)
     return bhorelmu_refusal(answer) == 0;
 }
 
-static int ask(struct board *board, const char *name, const uint8_t *packet, size_t size)
+static void ask(struct board *board, const char *name, const uint8_t *packet, size_t size)
 {
     uint8_t reply[BHORELMU_REPLY_SIZE];
     uint64_t answer = bhorelmu_call(board->record, sizeof board->record, board->main_flash, sizeof board->main_flash,
                                     board->settings, sizeof board->settings, 0, packet, size, reply, sizeof reply);
-    if (bhorelmu_refusal(answer) != 0) {
-        printf("%s: refusal %u\n", name, bhorelmu_refusal(answer));
-        return 0;
-    }
-    printf("%s:", name);
+    printf("%s%s:", bhorelmu_burns(answer) ? "burn the fuse, then " : "", name);
+    if (bhorelmu_refusal(answer) != 0)
+        printf(" refusal %u", bhorelmu_refusal(answer));
     for (uint32_t i = 0; i < bhorelmu_length(answer); i++)
         printf(" %02X", reply[i]);
-    printf("%s\n", bhorelmu_burns(answer) ? ", burn the fuse" : "");
-    return 1;
+    printf(", phase %u\n", board->record[BHORELMU_RECORD_PHASE]);
 }
 
 int main(void)
 {
-    static const uint8_t connect[] = {0x80, 0x01, 0x00, 0x12, 0x3A, 0x61, 0x44, 0xDE};
-    static const uint8_t info[] = {0x80, 0x01, 0x00, 0x19, 0xB2, 0xB8, 0x96, 0x49};
     static struct board board;
-    if (!start(&board) || !ask(&board, "Connect", connect, sizeof connect) || !ask(&board, "Info", info, sizeof info))
+    if (!start(&board))
         return 1;
-    printf("phase %u, rate %u bits a second\n", board.record[BHORELMU_RECORD_PHASE],
-           (unsigned)bhorelmu_rate(board.record[BHORELMU_RECORD_RATE_ID]));
+    printf("%u bits a second\n", (unsigned)bhorelmu_rate(board.record[BHORELMU_RECORD_RATE_ID]));
+    for (size_t i = 0; i < sizeof sent / sizeof sent[0]; i++)
+        ask(&board, sent[i].name, sent[i].packet, sent[i].size);
     return 0;
 }

@@ -42,7 +42,7 @@ fn packet_at(script: &[u8], index: u8) -> usize
     WAIT_AT + ENTRY_SIZE * count + lengths_of(script, index)
 }
 
-// Whether a script keeps the form, and how many entries it has. The whole of it is looked at.
+// Whether a script keeps the form, and how many entries it has: its size, its count and all its lengths are looked at.
 pub fn read_script(script: &[u8]) -> Script
     ensures { λ r. ⌜ scriptTold r ≡ scriptOf (now (script .entry)) ⌝ }
 {
