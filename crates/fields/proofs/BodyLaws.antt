@@ -1,10 +1,10 @@
 -- The bodies joined piece by piece, and found where an image has them.
 use mathlib.Core.Path.{_≡_, sym, ap, _∙_}
 use mathlib.Core.List.{List, _++_, append-assoc}
-use Prim.Native.Nat.{ℕ, _≤_}
+use Prim.Native.Nat.{ℕ, _+_, _≤_}
 use native.Mathlib.Omega.{arith}
 use borrow.Author.Tests.{eq-eqb}
-use lib.ListN.{length, getD, drop, replicate, length-append}
+use lib.ListN.{length, getD, drop, replicate, length-append, length-replicate}
 use lib.Seq.{sets, getD-take, getD-drop}
 use Rattle.octets.specs.Number.{bytesOf, part}
 use Rattle.octets.proofs.Parts.{length-part, part-of-part}
@@ -16,6 +16,12 @@ use Rattle.layout.specs.Layout.{form1, offsetOf, sumOf}
 use Rattle.layout.specs.Table.{filler-from-126}
 use Rattle.fields.specs.Bodies.{valuesOf, numbersOf, bodiesOf, bodyIn, shownIn, settingsIn}
 use Rattle.fields.specs.Fields.{fieldsSize, fieldsRead}
+
+-- a body that is put into an array of its own size is all that the array has
+pub body-taken : (at size : ℕ) (fields : List ℕ) → at + size ≤ length fields
+    → sets (replicate size 0) 0 (part at size fields) ≡ part at size fields
+body-taken at size fields there =
+    stored-whole (replicate size 0) (part at size fields) (length-replicate size 0 ∙ sym (length-part at size fields there))
 
 -- arrays of the bodies' lengths, stored into zeros one after the other
 module _ (p r s q : List ℕ) (lp : length p ≡ 32) (lr : length r ≡ 16) (ls : length s ≡ 18) (lq : length q ≡ 8) where

@@ -3,3 +3,5 @@
 pub mod Bodies
 -- Fields: the bodies by themselves.
 pub mod Fields
+-- FieldsArea: the numbers of such an area in form 1, for the boundary to C.
+pub mod FieldsArea

@@ -3,5 +3,3 @@
 pub mod OneNumber
 -- Stored: an answer beside the area that something was to be stored into.
 pub mod Stored
--- FieldsArea: the settings' fields as bytes.
-pub mod FieldsArea

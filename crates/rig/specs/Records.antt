@@ -13,7 +13,7 @@ use Rattle.layout.specs.Layout.{form1}
 use Rattle.fields.specs.Bodies.{bodiesOf}
 use Rattle.fields.specs.Fields.{fieldsRead}
 use Rattle.sessions.specs.declared.Session.{Session}
-use Rattle.numbers.specs.FieldsArea.{fieldsAreaSize, zeroAt}
+use Rattle.fields.specs.FieldsArea.{fieldsAreaSize, zeroAt}
 
 -- a record has 90 bytes: phase, lock, wrong count and rate id; then sleep, idle and the size of MAIN, four bytes each; then the settings' fields
 abbrev pub recordSize : ℕ

@@ -13,7 +13,7 @@ use Rattle.settings.specs.Reader.{readOf}
 use Rattle.settings.specs.Writer.{writeOf}
 use Rattle.numbers.specs.OneNumber.{refusal}
 use Rattle.numbers.specs.Stored.{Stored, stored, storedBy}
-use Rattle.numbers.specs.FieldsArea.{fieldsAreaSize, zeroAt}
+use Rattle.fields.specs.FieldsArea.{fieldsAreaSize, zeroAt}
 
 -- the reader stores the fields of what it read
 abbrev pub readFromC : List ℕ → List ℕ → Stored

@@ -3,7 +3,7 @@ ghost use mathlib.Core.Path.{_≡_};
 ghost use Rattle.fields.specs.Bodies.{bodiesOf};
 ghost use Rattle.settings.specs.Answers.{readNumbered};
 ghost use Rattle.numbers.specs.Stored.{stored, storedBy};
-ghost use Rattle.numbers.specs.FieldsArea.{fieldsAreaSize};
+ghost use Rattle.fields.specs.FieldsArea.{fieldsAreaSize};
 ghost use Rattle.rig_offline.specs.SettingsFromC.{readFromC, writeFromC};
 use crate::answers;
 use settings::Reading;

@@ -22,7 +22,7 @@ use Rattle.settings.specs.Writer.{writeOf}
 use Rattle.regions.specs.Memory.{Memory}
 use Rattle.numbers.specs.OneNumber.{refusalUnit, burnUnit, oneNumber, refusal, refusalOf}
 use Rattle.numbers.specs.Stored.{Stored, storedBy}
-use Rattle.numbers.specs.FieldsArea.{fieldsAreaSize, zeroAt}
+use Rattle.fields.specs.FieldsArea.{fieldsAreaSize, zeroAt}
 use Rattle.rig_offline.specs.SettingsFromC.{readFromC, writeFromC}
 use Rattle.loader.specs.Answers.{Left}
 use Rattle.loader.specs.Calling.{callOf}

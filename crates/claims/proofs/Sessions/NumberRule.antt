@@ -31,14 +31,14 @@ use Rattle.loader.specs.Calling.{serveOf, callOf}
 use Rattle.loader.proofs.CallLaws.{call-size-fits}
 use Rattle.numbers.specs.OneNumber.{refusalUnit, burnUnit, oneNumber, refusal, refusalOf}
 use Rattle.numbers.specs.Stored.{Stored, storedBy}
-use Rattle.numbers.specs.FieldsArea.{fieldsAreaSize, zeroAt}
+use Rattle.fields.specs.FieldsArea.{fieldsAreaSize, zeroAt}
 use Rattle.rig_offline.specs.SettingsFromC.{readFromC, writeFromC}
 use Rattle.rig.specs.Records.{recordSize, recordOf, sessionIn, isRecordArea}
 use Rattle.rig.specs.Boundary.{startByFuse, startFromC, Called, storedAfter, calledFrom, callFromC}
 
 -- ---- the numbers
 
--- "the settings reader checks 3 to 8", "the writer 3 then 8", "Start checks 1-8", "a session call 9 then 10"
+-- "Start checks 1-8, the settings reader 3-8, the writer 3 then 8, a session call 9 then 10."
 abbrev pub readNumbers : List ℕ
 readNumbers = 0 ∷ 3 ∷ 4 ∷ 5 ∷ 6 ∷ 7 ∷ 8 ∷ []
 

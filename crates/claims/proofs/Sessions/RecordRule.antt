@@ -19,7 +19,7 @@ use Rattle.layout.specs.Layout.{form1, lengthOf, offsetOf, sumOf, tableEnd}
 use Rattle.fields.specs.Bodies.{bodiesOf}
 use Rattle.fields.specs.Fields as fields
 use Rattle.sessions.specs.declared.Session.{Session}
-use Rattle.numbers.specs.FieldsArea.{fieldsAreaSize, zeroAt}
+use Rattle.fields.specs.FieldsArea.{fieldsAreaSize, zeroAt}
 use Rattle.rig.specs.Records.{recordSize, fieldsAt, phaseCode, lockCode, sleepOf, recordOf, phaseIn, standingIn, sessionIn, phaseFits, isRecordArea}
 use Rattle.rig.proofs.RecordAgain.{encode-after-decode}
 use Rattle.claims.specs.Held.{HeldSession}

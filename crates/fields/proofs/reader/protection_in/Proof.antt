@@ -1,11 +1,7 @@
 -- `fields::reader::protection_in` meets its contract: the body takes the whole array.
-use mathlib.Core.Path.{sym}
 use native.Mathlib.Omega.{arith}
 use borrow.Author.Needs.{needs}
-use lib.ListN.{replicate}
-use Rattle.octets.specs.Number.{part}
-use Rattle.octets.proofs.Parts.{length-part}
-use Rattle.stores.proofs.Storing.{stored-whole}
+use Rattle.fields.proofs.BodyLaws.{body-taken}
 use Rattle.fields.proofs.reader.protection_in.Statement.{statement}
 use Rattle.fields.proofs.reader.protection_in.Tie as tie
 
@@ -16,7 +12,4 @@ protection-in-spec =
     (λ c. search needs)
     (λ c κs. search needs)
     (λ c κs. search needs)
-    (λ c.
-    let fields = c .before .before .before .before .before .args .fields .now in
-    rw (c .before .put .ensures, c .before .before .part-of .ensures)
-    (stored-whole (replicate 8 0) (part 66 8 fields) (sym (length-part 66 8 fields (omega arith))))))
+    (λ c. rw (c .before .put .ensures, c .before .before .part-of .ensures) (body-taken 66 8 (c .before .before .before .before .before .args .fields .now) (omega arith))))

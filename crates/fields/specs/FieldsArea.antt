@@ -1,4 +1,4 @@
--- The settings' fields from C: the bodies of an image by themselves, its bytes 52 to 125.
+-- The fields of form 1 as an area that C lends: how many bytes it has, and where its zero byte stands.
 use Prim.Native.Nat.{ℕ}
 
 abbrev pub fieldsAreaSize : ℕ
