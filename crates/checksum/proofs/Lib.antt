@@ -7,7 +7,9 @@ pub mod Steps
 pub mod Laws
 -- Parts: bytes in a loop, and bytes as a number.
 pub mod Parts
--- Queue: lanes that wait for their words.
+-- Halves: a number below 16 that is none of the first fifteen.
+pub mod Halves
+-- Sparse: four bits for one.
+pub mod Sparse
+-- Queue: lanes that wait for their bytes.
 pub mod Queue
--- Doubling: a row of what so many bits make of each number, out of a few of its entries.
-pub mod Doubling

@@ -1,31 +1,29 @@
 -- Going on over a part of some bytes: byte by byte, as a loop does, and as over one number.
-use mathlib.Core.Path.{_≡_, sym, ap, _∙_}
-use mathlib.Core.List.{List, _∷_}
-use Prim.Native.Nat.{ℕ, zero, suc, _+_, _-_, _*_, _<_, _≤_}
-use native.Mathlib.Numerals.{add-one, add-two}
+use mathlib.Core.Path.{_≡_, sym, ap, ap₂, _∙_}
+use mathlib.Core.List.{List}
+use Prim.Native.Nat.{ℕ, zero, suc, _+_, _*_, _<_, _≤_}
+use native.Mathlib.Numerals.{add-one}
 use native.Mathlib.Omega.{arith}
 use lib.Bits.{bitXor, xor-comm, xor-zero-r, xor-shifted}
-use lib.ListN.{length, getD, take, drop}
-use lib.Seq.{drop-cons}
+use lib.ListN.{length, getD, take, drop, take-append-drop}
+use lib.Seq.{drop-cons, drop-drop, drop-length}
 use Rattle.octets.specs.Number.{numberOf, part, numberAt}
 use Rattle.checksum.specs.Checksum.{bitsOn, byteOn, checksumFrom}
 use Rattle.checksum.proofs.Xor.{xor-assoc}
 use Rattle.checksum.proofs.Steps.{bits-xor, bits-none, bits-add, bits-shifted}
+use Rattle.checksum.proofs.Laws.{checksum-append}
 
--- a turn of the loop, and its end
-pub part-turn : (sum at count : ℕ) (bytes : List ℕ) → 0 < count → at + count ≤ length bytes
-    → checksumFrom sum (part at count bytes) ≡ checksumFrom (byteOn sum (getD bytes at 0)) (part (at + 1) (count - 1) bytes)
+-- a turn of the loop over bytes, and its end
+pub byte-turn : (sum at : ℕ) (bytes : List ℕ) → at < length bytes
+    → checksumFrom sum (drop at bytes) ≡ checksumFrom (byteOn sum (getD bytes at 0)) (drop (at + 1) bytes)
 unfolding checksumFrom
-part-turn sum at count bytes more h =
-    let e : count ≡ suc (count - 1) = omega arith in
-    let inside : at < length bytes = omega arith in
-    rw (add-one, drop-cons bytes at 0) (ap (λ (n : ℕ). checksumFrom sum (take n (getD bytes at 0 ∷ drop (suc at) bytes))) e)
+byte-turn sum at bytes h = rw (add-one, drop-cons bytes at 0)
 
-pub part-end : (sum at count : ℕ) (bytes : List ℕ) → count ≤ 0 → checksumFrom sum (part at count bytes) ≡ sum
+pub byte-end : (sum at : ℕ) (bytes : List ℕ) → at ≤ length bytes → length bytes ≤ at → checksumFrom sum (drop at bytes) ≡ sum
 unfolding checksumFrom
-part-end sum at count bytes none =
-    let e : count ≡ 0 = omega arith in
-    ap (λ (n : ℕ). checksumFrom sum (take n (drop at bytes))) e
+byte-end sum at bytes h l =
+    let e : at ≡ length bytes = omega arith in
+    rw (e, drop-length bytes)
 
 -- a byte goes in together with what stands above it
 byte-and-more : (sum byte more : ℕ) → byte < 256 → bitsOn 8 (bitXor sum (byte + 256 * more)) ≡ bitXor (byteOn sum byte) more
@@ -53,19 +51,22 @@ as-number bytes small (suc count) sum at h =
     ∙ sym (bits-add 8 (8 * count) (bitXor sum (byte + 256 * more)))
     ∙ ap (λ (n : ℕ). bitsOn n (bitXor sum (byte + 256 * more))) all)
 
--- two bytes as a number, and four as two such numbers
-pub number-of-two : (bytes : List ℕ) (at : ℕ) → at + 2 ≤ length bytes
-    → numberAt at 2 bytes ≡ getD bytes at 0 + 256 * getD bytes (at + 1) 0
+-- eight bytes as two words
+pub number-of-eight : (bytes : List ℕ) (at : ℕ) → at + 8 ≤ length bytes
+    → numberAt at 8 bytes ≡ numberAt at 4 bytes + 4294967296 * numberAt (at + 4) 4 bytes
 unfolding numberOf
-number-of-two bytes at h =
+number-of-eight bytes at h =
+    let four : at + 4 ≡ suc (suc (suc (suc at))) = omega arith in
     let first : at < length bytes = omega arith in
     let second : suc at < length bytes = omega arith in
-    rw (add-one, drop-cons bytes at 0, drop-cons bytes (suc at) 0) (omega arith)
+    let third : suc (suc at) < length bytes = omega arith in
+    let fourth : suc (suc (suc at)) < length bytes = omega arith in
+    rw (four, drop-cons bytes at 0, drop-cons bytes (suc at) 0, drop-cons bytes (suc (suc at)) 0, drop-cons bytes (suc (suc (suc at))) 0) (omega arith)
 
-pub number-of-four : (bytes : List ℕ) (at : ℕ) → at + 4 ≤ length bytes
-    → numberAt at 4 bytes ≡ numberAt at 2 bytes + 65536 * numberAt (at + 2) 2 bytes
-unfolding numberOf
-number-of-four bytes at h =
-    let first : at < length bytes = omega arith in
-    let second : suc at < length bytes = omega arith in
-    rw (add-two, drop-cons bytes at 0, drop-cons bytes (suc at) 0) (omega arith)
+-- a turn of the loop over words of four bytes
+pub word-turn : (bytes : List ℕ) → ((k : ℕ) → getD bytes k 0 < 256) → (sum at : ℕ) → at + 4 ≤ length bytes
+    → checksumFrom sum (drop at bytes) ≡ checksumFrom (bitsOn 32 (bitXor sum (numberAt at 4 bytes))) (drop (at + 4) bytes)
+word-turn bytes small sum at h =
+    ap (checksumFrom sum) (sym (take-append-drop 4 (drop at bytes)))
+    ∙ sym (checksum-append sum (take 4 (drop at bytes)) (drop 4 (drop at bytes)))
+    ∙ ap₂ checksumFrom (as-number bytes small 4 sum at h) (drop-drop 4 at bytes)

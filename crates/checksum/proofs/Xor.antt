@@ -3,7 +3,7 @@ use mathlib.Core.Path.{_≡_, refl, sym, ap, ap₂, _∙_}
 use Prim.Native.Nat.{ℕ, zero, suc, _+_, _*_, _/_, _%_, _<_}
 use native.Mathlib.Nat.{mod-lt, le-of-suc-le-suc, not-suc-le-zero, zero-lt-suc}
 use lib.Arith.{bin-ind}
-use lib.Bits.{bitXor, differ, xor-step, xor-shr, xor-mod, xor-comm, xor-self}
+use lib.Bits.{bitXor, differ, xor-step, xor-shr, xor-mod, xor-comm}
 
 -- what holds of 0 and of 1 holds of every lowest bit
 pub lowest-bit : (P : ℕ → Type 0) → P 0 → P 1 → (n : ℕ) → P (n % 2)
@@ -38,7 +38,3 @@ xor-regroup a b c d =
     xor-assoc a b (bitXor c d)
     ∙ ap (bitXor a) (sym (xor-assoc b c d) ∙ ap (λ (x : ℕ). bitXor x d) (xor-comm b c) ∙ xor-assoc c b d)
     ∙ sym (xor-assoc a c (bitXor b d))
-
--- what goes in twice is gone
-pub xor-twice : (a b : ℕ) → bitXor a (bitXor a b) ≡ b
-xor-twice a b = sym (xor-assoc a a b) ∙ ap (λ (x : ℕ). bitXor x b) (xor-self a)

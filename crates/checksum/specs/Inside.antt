@@ -1,21 +1,24 @@
--- What the private functions say of their tables and lanes. No public promise needs it.
-use mathlib.Core.Path.{_≡_}
+-- What the private functions say of their lanes. No public promise needs it.
 use mathlib.Core.List.{List, [], _∷_}
-use Prim.Native.Nat.{ℕ, _+_, _*_, _<_}
+use Prim.Native.Nat.{ℕ, _*_, _/_, _%_, _^_}
 use lib.Bits.{bitXor}
-use lib.ListN.{getD, take, drop}
-use Rattle.checksum.specs.Checksum.{bitsOn, checksumFrom}
+use lib.ListN.{take, drop}
+use Rattle.checksum.specs.Checksum.{checksumFrom}
 
--- a table of half bytes: what four bits make of each, and then what eight do
-pub record HalfBytes (table : List ℕ) : Type 0 where
-  pub four : (n : ℕ) → n < 16 → getD table n 0 ≡ bitsOn 4 n
-  pub eight : (n : ℕ) → n < 16 → getD table (16 + n) 0 ≡ bitsOn 8 n
-
--- a table of bytes: in its four rows what 104, 112, 120 and 128 bits make of each
-unfoldable pub FarBytes : List ℕ → Type 0
-FarBytes table = (row n : ℕ) → row < 4 → n < 256 → getD table (256 * row + n) 0 ≡ bitsOn (104 + 8 * row) n
-
--- going on over bytes with lanes: each goes in before its word of four bytes
+-- going on over bytes with lanes: each goes in before its eight bytes
 unfoldable pub lanesFrom : ℕ → List ℕ → List ℕ → ℕ
 lanesFrom sum [] bytes = checksumFrom sum bytes
-lanesFrom sum (lane ∷ lanes) bytes = lanesFrom (checksumFrom (bitXor sum lane) (take 4 bytes)) lanes (drop 4 bytes)
+lanesFrom sum (lane ∷ lanes) bytes = lanesFrom (checksumFrom (bitXor sum lane) (take 8 bytes)) lanes (drop 8 bytes)
+
+-- what a number of eight bytes leaves to the second, third, fourth and fifth after it
+unfoldable pub secondOf : ℕ → ℕ
+secondOf long = bitXor (long * 2 ^ 17 % 2 ^ 64) (long * 2 ^ 55 % 2 ^ 64)
+
+unfoldable pub thirdOf : ℕ → ℕ
+thirdOf long = bitXor (long / 2 ^ 47) (bitXor (long / 2 ^ 9) (long * 2 ^ 19 % 2 ^ 64))
+
+unfoldable pub fourthOf : ℕ → ℕ
+fourthOf long = bitXor (long / 2 ^ 45) (long * 2 ^ 44 % 2 ^ 64)
+
+unfoldable pub fifthOf : ℕ → ℕ
+fifthOf long = long / 2 ^ 20

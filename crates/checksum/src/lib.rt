@@ -1,12 +1,12 @@
 // The checksum of document 01: CRC32 from the seed 0xFFFFFFFF, not inverted at the end.
-mod far_bytes;
+mod half_bytes;
 mod lanes;
 mod number;
 mod short;
 
 use lanes::by_lanes;
 use short::by_bytes;
-use short::half_bytes;
+use short::by_words;
 ghost use mathlib.Core.Path.{_≡_};
 ghost use Rattle.checksum.specs.Checksum.{checksumFrom, checksumOf};
 
@@ -17,14 +17,18 @@ pub fn checksum_of(bytes: &[u8]) -> u32
     checksum_from(0xFFFFFFFF, bytes)
 }
 
-// The checksum of the bytes, continued from an earlier value.
+// The checksum of the bytes, continued from an earlier value. Most packets have a core of one byte, and most replies of two.
 pub fn checksum_from(earlier: u32, bytes: &[u8]) -> u32
     ensures { λ r. ⌜ r ≡ checksumFrom earlier (now (bytes .entry)) ⌝ }
 {
-    let halves = half_bytes();
-    // So few bytes are done sooner than the lanes' table is set up.
-    if bytes.len() < 40 {
-        return by_bytes(&halves, earlier, bytes, 0, bytes.len());
+    if bytes.len() < 4 {
+        return by_bytes(earlier, bytes, 0);
     }
-    by_lanes(&halves, earlier, bytes)
+    let mut sum = earlier;
+    let mut at = 0;
+    if 48 <= bytes.len() {
+        sum = by_lanes(earlier, bytes);
+        at = bytes.len() / 8 * 8;
+    }
+    by_words(sum, bytes, at)
 }

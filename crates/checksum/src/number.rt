@@ -24,3 +24,10 @@ pub(crate) fn word_at(bytes: &[u8], at: usize) -> u32
 {
     pair_at(bytes, at) + 65536 * pair_at(bytes, at + 2)
 }
+
+pub(crate) fn long_at(bytes: &[u8], at: usize) -> u64
+    requires { ⌜ at + 8 ≤ length (now bytes) ⌝ }
+    ensures { λ r. ⌜ r ≡ numberAt at 8 (now (bytes .entry)) ⌝ }
+{
+    word_at(bytes, at) as u64 + 4294967296 * (word_at(bytes, at + 4) as u64)
+}

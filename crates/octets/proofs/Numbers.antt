@@ -1,10 +1,12 @@
 -- A number and its bytes give each other back.
 use mathlib.Core.Path.{_≡_, refl, ap, ap₂, _∙_}
 use mathlib.Core.List.{List, [], _∷_}
-use Prim.Native.Nat.{ℕ, zero, suc, _+_, _*_, _/_, _%_, _^_, _<_}
+use Prim.Native.Nat.{ℕ, zero, suc, _+_, _-_, _*_, _/_, _%_, _^_, _<_, _≤_}
 use native.Mathlib.Nat.{pow-suc, div-lt-iff-lt-mul, mod-lt, zero-lt-suc}
+use native.Mathlib.Numerals.{add-one, add-two}
 use native.Mathlib.Omega.{arith}
 use lib.ListN.{length, getD, take}
+use lib.Seq.{drop-cons}
 use Rattle.octets.specs.Number.{numberOf, bytesOf, numberAt}
 
 pub length-bytesOf : (width number : ℕ) → length (bytesOf width number) ≡ width
@@ -38,12 +40,30 @@ number-fits (b ∷ bytes) h =
     let low : b < 256 = h 0 in
     rw pow-suc (omega (arith, number-fits bytes (λ k. h (suc k))))
 
--- two bytes by themselves, and four as two twos
-pub two-bytes : (bytes : List ℕ) → numberOf (take 2 bytes) ≡ getD (take 2 bytes) 0 0 + 256 * getD (take 2 bytes) 1 0
+-- two bytes that are there, and the one that is left; four as two twos
+pub number-of-two : (bytes : List ℕ) (at : ℕ) → at + 2 ≤ length bytes
+    → numberAt at 2 bytes ≡ getD bytes at 0 + 256 * getD bytes (at + 1) 0
 unfolding numberOf
-two-bytes [] = refl
-two-bytes (a ∷ []) = refl
-two-bytes (a ∷ b ∷ bytes) = omega arith
+number-of-two bytes at h =
+    let first : at < length bytes = omega arith in
+    let second : suc at < length bytes = omega arith in
+    rw (add-one, drop-cons bytes at 0, drop-cons bytes (suc at) 0) (omega arith)
+
+pub one-byte-left : (bytes : List ℕ) (at : ℕ) → length bytes - at < 2 → numberAt at 2 bytes ≡ getD bytes at 0
+unfolding numberOf
+one-byte-left [] zero h = refl
+one-byte-left [] (suc at) h = refl
+one-byte-left (a ∷ []) zero h = omega arith
+one-byte-left (a ∷ b ∷ bytes) zero h = omega arith
+one-byte-left (a ∷ bytes) (suc at) h = one-byte-left bytes at (omega arith)
+
+pub number-of-four : (bytes : List ℕ) (at : ℕ) → at + 4 ≤ length bytes
+    → numberAt at 4 bytes ≡ numberAt at 2 bytes + 65536 * numberAt (at + 2) 2 bytes
+unfolding numberOf
+number-of-four bytes at h =
+    let first : at < length bytes = omega arith in
+    let second : suc at < length bytes = omega arith in
+    rw (add-two, drop-cons bytes at 0, drop-cons bytes (suc at) 0) (omega arith)
 
 pub two-twos : (bytes : List ℕ) → numberOf (take 4 bytes) ≡ numberAt 0 2 (take 4 bytes) + 65536 * numberAt 2 2 (take 4 bytes)
 unfolding numberOf

@@ -1,7 +1,7 @@
 // Bytes read: one, some, numbers of two and four, and how many there are.
 ghost use mathlib.Core.Path.{_≡_};
-ghost use Prim.Native.Nat.{_-_, min};
-ghost use lib.ListN.{getD};
+ghost use Prim.Native.Nat.{_+_, _-_, _≤_, min};
+ghost use lib.ListN.{length, getD};
 ghost use Rattle.octets.specs.Number.{part, numberAt};
 
 // The lesser of two numbers.
@@ -35,18 +35,38 @@ pub fn part_of(bytes: &[u8], at: usize, count: usize) -> &[u8]
     &bytes[first..end]
 }
 
+// Two bytes that are there, and four.
+fn pair_at(bytes: &[u8], at: usize) -> u16
+    requires { ⌜ at + 2 ≤ length (now bytes) ⌝ }
+    ensures { λ r. ⌜ r ≡ numberAt at 2 (now (bytes .entry)) ⌝ }
+{
+    bytes[at] as u16 + 256 * (bytes[at + 1] as u16)
+}
+
+fn word_at(bytes: &[u8], at: usize) -> u32
+    requires { ⌜ at + 4 ≤ length (now bytes) ⌝ }
+    ensures { λ r. ⌜ r ≡ numberAt at 4 (now (bytes .entry)) ⌝ }
+{
+    pair_at(bytes, at) as u32 + 65536 * (pair_at(bytes, at + 2) as u32)
+}
+
 // The two-byte number at a place; bytes past the end count as 0.
 pub fn number16_at(bytes: &[u8], at: usize) -> u16
     ensures { λ r. ⌜ r ≡ numberAt at 2 (now (bytes .entry)) ⌝ }
 {
-    let two = part_of(bytes, at, 2);
-    byte_at(two, 0) as u16 + 256 * (byte_at(two, 1) as u16)
+    if 2 <= room(bytes.len(), at) {
+        return pair_at(bytes, at);
+    }
+    byte_at(bytes, at) as u16
 }
 
-// The four-byte number at a place; bytes past the end count as 0.
+// The four-byte number at a place; bytes past the end count as 0. Where all four are there, their end is looked for once.
 pub fn number32_at(bytes: &[u8], at: usize) -> u32
     ensures { λ r. ⌜ r ≡ numberAt at 4 (now (bytes .entry)) ⌝ }
 {
+    if 4 <= room(bytes.len(), at) {
+        return word_at(bytes, at);
+    }
     let four = part_of(bytes, at, 4);
     let low = number16_at(four, 0);
     let high = number16_at(four, 2);

@@ -2,34 +2,36 @@
 use mathlib.Core.Path.{refl, sym, _∙_}
 use Prim.Native.Nat.{_+_}
 use native.Mathlib.Omega.{arith}
-use Rattle.checksum.proofs.Queue.{lane-in, last-lane-in}
+use Rattle.checksum.proofs.Queue.{lane-in, no-lane}
 use Rattle.checksum.proofs.lanes.join.Statement.{statement}
 use Rattle.checksum.proofs.lanes.join.Tie as tie
 
 returns : tie.Need-returns
 returns c =
-    let args = c .before .before .before .before .before .args in
+    let args = c .before .before .before .before .before .before .args in
     let bytes = args .bytes .now in
     let at = args .at in
-    rw (c .by-bytes4 .ensures, c .before .by-bytes3 .ensures, c .before .before .by-bytes2 .ensures)
-    (rw (c .before .before .before .by-bytes .ensures)
+    rw (c .lane-in5 .ensures, c .before .lane-in4 .ensures, c .before .before .lane-in3 .ensures)
+    (rw (c .before .before .before .lane-in2 .ensures, c .before .before .before .before .lane-in .ensures)
     (sym
-    (lane-in bytes _ _ _ at (at + 4) refl
-    ∙ lane-in bytes _ _ _ (at + 4) (at + 8) (omega arith)
-    ∙ lane-in bytes _ _ _ (at + 8) (at + 12) (omega arith)
-    ∙ last-lane-in bytes _ _ (at + 12))))
+    (lane-in bytes _ _ _ at (at + 8) refl
+    ∙ lane-in bytes _ _ _ (at + 8) (at + 16) (omega arith)
+    ∙ lane-in bytes _ _ _ (at + 16) (at + 24) (omega arith)
+    ∙ lane-in bytes _ _ _ (at + 24) (at + 32) (omega arith)
+    ∙ lane-in bytes _ _ _ (at + 32) (at + 40) (omega arith)
+    ∙ no-lane bytes _ (at + 40))))
 
 pub join-spec : {M : Type 1} → statement M
 join-spec =
     tie.close
     (tie.spec
-    (λ c κs. (c .before .pre .0, omega arith))
+    (λ c κs. omega arith)
     (λ c. omega arith)
-    (λ c κs. (c .before .before .pre .0, omega arith))
+    (λ c κs. omega arith)
     (λ c. omega arith)
-    (λ c κs. (c .before .before .before .pre .0, omega arith))
+    (λ c κs. omega arith)
     (λ c. omega arith)
+    (λ c κs. omega arith)
     (λ c. omega arith)
-    (λ c. omega arith)
-    (λ c κs. (c .before .before .before .before .pre .0, omega arith))
+    (λ c κs. omega arith)
     returns)

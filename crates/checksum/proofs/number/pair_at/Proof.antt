@@ -2,7 +2,7 @@
 use mathlib.Core.Path.{_∙_, ap₂, sym}
 use Prim.Native.Nat.{ℕ, _+_, _*_}
 use native.Mathlib.Omega.{arith}
-use Rattle.checksum.proofs.Parts.{number-of-two}
+use Rattle.octets.proofs.Numbers.{number-of-two}
 use Rattle.checksum.proofs.number.pair_at.Statement.{statement}
 use Rattle.checksum.proofs.number.pair_at.Tie as tie
 

@@ -2,7 +2,7 @@
 use mathlib.Core.Path.{_∙_, ap₂, sym}
 use Prim.Native.Nat.{ℕ, _+_, _*_}
 use native.Mathlib.Omega.{arith}
-use Rattle.checksum.proofs.Parts.{number-of-two, number-of-four}
+use Rattle.octets.proofs.Numbers.{number-of-two, number-of-four}
 use Rattle.checksum.proofs.number.word_at.Statement.{statement}
 use Rattle.checksum.proofs.number.word_at.Tie as tie
 
