@@ -12,8 +12,10 @@ use Rattle.octets.proofs.Searching.{pick-true, pick-false, by-test}
 use Rattle.wire.specs.Codes as codes
 use Rattle.wire.specs.declared.Command.{Command}
 use Rattle.wire.specs.declared.Command.the-variants as command
+use Rattle.wire.specs.Packet.{codeIn}
 use Rattle.wire.specs.Acknowledgement.{acknowledgement}
 use Rattle.wire.specs.Commands.{commandOf}
+use Rattle.packets.proofs.CommandLaws.{Stands, read-stands}
 use Rattle.standing.specs.declared.Phase.{Phase}
 use Rattle.standing.specs.declared.Phase.the-variants as phase
 use Rattle.standing.specs.declared.Standing.{Standing}
@@ -67,6 +69,15 @@ module _ (alert : ℕ) (right : Bool) where
         let after = passTime standing wait in
         ap (λ (heard : Judged). pick (after .heard) (pick (eqb (length packet) 0) (silently (after .standing)) heard) (silently (after .standing)))
         (by-phase (after .standing) (after .standing .phase))
+
+-- a packet with another command byte is no Unlock
+pub others-are-not-compared : (packet : List ℕ) → (codeIn packet ≡ codes.unlock → ⊥) → (standing : Standing) (alert wait : ℕ) (right : Bool)
+    → judgedOf standing alert wait packet right ≡ judgedOf standing alert wait packet false
+others-are-not-compared packet other standing alert wait right =
+    only-unlock-is-compared alert right packet (λ a e. absurd (other (unlock-stands e .0))) standing wait
+  where
+    unlock-stands : commandOf packet ≡ command.Unlock → Stands packet command.Unlock
+    unlock-stands e = rw e at (read-stands packet)
 
 -- ---- the third wrong password
 

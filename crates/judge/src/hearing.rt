@@ -12,7 +12,9 @@ use decisions::Judged;
 use replies::Reply;
 use standing::Phase;
 use standing::Standing;
+use wire::CORE_AT;
 use wire::Command;
+use wire::PACKET_FRAME;
 use wire::codes;
 
 fn silently(standing: Standing) -> Judged
@@ -36,15 +38,22 @@ fn connected(standing: Standing) -> Standing
     }
 }
 
+// The size of a Connect: its core is the command byte alone.
+const CONNECT_SIZE: usize = PACKET_FRAME + 1;
+
+// Only an exact Connect is answered, so nothing else is read of the packet.
 fn heard_in_detect(standing: Standing, packet: &[u8]) -> Judged
     ensures { λ r. ⌜ r ≡ heardInDetect standing (now (packet .entry)) ⌝ }
 {
     if wire::acknowledge(packet) != codes::ACKNOWLEDGED {
         return silently(standing);
     }
-    let Command::Connect = wire::read_command(packet) else {
+    if octets::byte_at(packet, CORE_AT) != codes::CONNECT {
         return silently(standing);
-    };
+    }
+    if packet.len() != CONNECT_SIZE {
+        return silently(standing);
+    }
     judgement::acknowledges(connected(standing), codes::ACKNOWLEDGED)
 }
 

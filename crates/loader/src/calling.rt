@@ -6,30 +6,24 @@ ghost use Rattle.loader.specs.Answers.{callTold, callNumbered, callLeft}
 ghost use Rattle.loader.specs.Calling.{standsThen, judgement, deed, serveOf, callOf};
 use crate::CallAnswer;
 use crate::Called;
+use crate::passwords;
 use crate::records;
 use decisions::Effect;
 use decisions::Judged;
 use replies::Reply;
 use sessions::Session;
-use wire::FIRST_AT;
 use wire::codes;
-
-// How many bytes the passwords have.
-const PASSWORD_SIZE: usize = 32;
-
-const RESET_PASSWORD_SIZE: usize = 16;
 
 // The packet is judged; of the password the judge hears only whether the packet carries it.
 fn judge_packet(session: Session, wait: u32, packet: &[u8]) -> Judged
     ensures { λ r. ⌜ r ≡ judgement session wait (now (packet .entry)) ⌝ }
 {
     let settings = session.settings;
-    let tried = octets::part_of(packet, FIRST_AT, PASSWORD_SIZE);
-    let right = alike::are_same(&settings.password, tried);
+    let right = passwords::unlocks(&settings.password, packet);
     judge::judge(session.standing, settings.shown.alert, wait, packet, right)
 }
 
-// What was decided is done to memory.
+// What was decided is done to memory. Most packets are only answered, and nothing is to be done.
 fn act_on(
     effect: Effect,
     session: Session,
@@ -39,9 +33,11 @@ fn act_on(
 ) -> Reply
     ensures { λ r. ⌜ acted r (memory (now (main .exit)) (now (image .exit))) ≡ deed session (now (packet .entry)) (memory (now (main .entry)) (now (image .entry))) effect ⌝ }
 {
+    if let Effect::Say(reply) = effect {
+        return reply;
+    }
     let settings = session.settings;
-    let tried = octets::part_of(packet, FIRST_AT, RESET_PASSWORD_SIZE);
-    let right = alike::are_same(&settings.reset_password, tried);
+    let right = passwords::resets(effect, &settings.reset_password, packet);
     act::act(
         effect,
         settings.shown,

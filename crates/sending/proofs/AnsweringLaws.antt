@@ -1,17 +1,17 @@
--- What silent commands get, that every answer fits, and that a locked board sends no bytes of memory.
+-- What silent commands get, that silence sends nothing, that every answer fits, and that a locked board sends no bytes of memory.
 use mathlib.Core.Path.{_≡_, refl}
 use mathlib.Core.Bool.{true, false, true≢false}
 use mathlib.Core.List.{List, [], _++_}
 use Prim.Native.Nat.{ℕ, _≤_}
 use native.Mathlib.Omega.{arith}
 use lib.ListN.{length, drop}
-use Rattle.octets.proofs.Searching.{pick-true, pick-false}
+use Rattle.octets.proofs.Searching.{pick-true, pick-false, by-pick}
 use Rattle.wire.specs.Codes.{replyLimit}
 use Rattle.wire.specs.Commands.{isSilent}
 use Rattle.replies.specs.declared.Reply.{Reply}
 use Rattle.replies.specs.declared.Reply.the-variants.{Silence, Acknowledged, Message, Info, Bytes, Sum}
-use Rattle.replies.specs.Replies.{readBackMost, replyBytes, Sent, sent}
-use Rattle.replies.proofs.ReplyLaws.{sent-fits, reply-is-sent}
+use Rattle.replies.specs.Replies.{readBackMost, replyBytes, Sent, sent, sentOf}
+use Rattle.replies.proofs.ReplyLaws.{nothing-sent, sent-fits, reply-is-sent}
 use Rattle.decisions.specs.declared.Effect.{Effect}
 use Rattle.decisions.specs.declared.Effect.the-variants.{Say, TellInfo, Strike, Perform}
 use Rattle.decisions.proofs.EffectTests.{isPerformed}
@@ -38,6 +38,16 @@ module _ (packet : List ℕ) where
   pub others-are-told : (reply : Reply) → isSilent packet ≡ false → hushed packet reply ≡ reply
   unfolding hushed
   others-are-told reply h = pick-false _ _ h
+
+-- ---- silence
+
+-- where nothing is to be said nothing is sent, whatever the command
+pub silence-sends-nothing : (effect : Effect) (packet : List ℕ) (mainSize : ℕ) (memory : Memory) (area : List ℕ)
+    → answerOf effect Silence packet mainSize memory area ≡ sent 0 area
+unfolding answerOf hushed replyBytes
+silence-sends-nothing effect packet mainSize memory area =
+    by-pick (λ reply. sentOf (replyBytes reply (bytesAsked mainSize memory effect)) area ≡ sent 0 area) (isSilent packet) Silence Silence
+    (λ y. nothing-sent area) (λ n. nothing-sent area)
 
 -- ---- sizes
 

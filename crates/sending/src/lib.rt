@@ -85,6 +85,9 @@ pub fn answer<'a>(
 ) -> usize
     ensures { λ r. ⌜ sent r (now (area .exit)) ≡ answerOf effect reply (now (packet .entry)) «main_size» (memory (now (main .entry)) (now (image .entry))) (now (area .entry)) ⌝ }
 {
+    if let Reply::Silence = reply {
+        return 0;
+    }
     let told = hush(packet, reply);
     let bytes = bytes_asked(effect, main_size, main, image);
     replies::write_reply(told, bytes, area)

@@ -1,7 +1,10 @@
 // The acknowledgement of a packet: what is wrong with its framing, the first that applies.
 ghost use mathlib.Core.Path.{_≡_};
+ghost use Prim.Native.Nat.{_+_};
+ghost use lib.ListN.{length};
 ghost use Rattle.wire.specs.Packet.{lengthIn};
 ghost use Rattle.wire.specs.Acknowledgement.{isRate, checksumDiffers, rateUnknown, acknowledgement};
+use crate::CHECKSUM_SIZE;
 use crate::CORE_AT;
 use crate::FIRST_AT;
 use crate::LENGTH_AT;
@@ -25,12 +28,13 @@ fn is_rate(id: u8) -> bool
     id <= codes::LAST_RATE_ID
 }
 
+// The checksum stands in the last four bytes of a packet whose size is right, and the core before it.
 fn checksum_differs(packet: &[u8]) -> bool
+    requires { ⌜ length (now packet) ≡ lengthIn (now packet) + 7 ⌝ }
     ensures { λ r. ⌜ r ≡ checksumDiffers (now (packet .entry)) ⌝ }
 {
-    let length = length_in(packet) as usize;
-    let core = octets::part_of(packet, CORE_AT, length);
-    octets::number32_at(packet, CORE_AT + length) != checksum::checksum_of(core)
+    let end = packet.len() - CHECKSUM_SIZE;
+    octets::number32_at(packet, end) != checksum::checksum_of(&packet[CORE_AT..end])
 }
 
 fn rate_unknown(packet: &[u8]) -> bool

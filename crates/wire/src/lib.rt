@@ -11,6 +11,8 @@ pub const PACKET_FRAME: usize = 7;
 
 pub const LENGTH_AT: usize = 1;
 
+pub(crate) const CHECKSUM_SIZE: usize = 4;
+
 // The core begins with the command byte.
 pub const CORE_AT: usize = 3;
 

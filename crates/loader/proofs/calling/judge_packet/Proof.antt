@@ -1,4 +1,5 @@
 -- `loader::calling::judge_packet` meets its contract: the bit, and then the judge.
+use mathlib.Core.Path.{_∙_}
 use borrow.Author.Needs.{needs}
 use Rattle.loader.proofs.calling.judge_packet.Statement.{statement}
 use Rattle.loader.proofs.calling.judge_packet.Tie as tie
@@ -9,5 +10,4 @@ judge-packet-spec =
     (tie.spec
     (λ c κs. search needs)
     (λ c κs. search needs)
-    (λ c κs. search needs)
-    (λ c. rw (c .judge .ensures, c .before .are-same .ensures, c .before .before .before .before .before .part-of .ensures)))
+    (λ c. c .judge .ensures ∙ c .before .unlocks .ensures _ _ _))
