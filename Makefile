@@ -1,5 +1,5 @@
 # The commands of the README.
-.PHONY: test run show limits vectors lib install compare mutants bench
+.PHONY: test run show limits vectors lib install compare mutants bench stack
 
 PREFIX ?= /usr/local
 N ?= 200000
@@ -49,6 +49,11 @@ compare:
 mutants:
 	sh rig/compare/mutants.sh
 
-# Time and instructions of the library beside the model in C, and of the checksum beside others: rewrites the figures of docs/BENCH.md.
+# Instructions and time of the library beside the model in C, and of the checksum beside others, and the stack: rewrites the tables
+# of docs/BENCH.md.
 bench:
 	sh bench/run.sh
+
+# The stack that each function of the library takes at most, and the deepest way down.
+stack:
+	sh stack/run.sh

@@ -1,11 +1,11 @@
-"""The ratios as a picture: a bar for each, to the left of the line at 1 where the library is faster."""
+"""The ratios of instructions as a picture: a bar for each, to the left of the line at 1 where the library takes fewer."""
 import html
 import math
 
 LEFT, WIDTH, ROW, TOP, BAR = 290, 520, 24, 64, 8
-TIME_AT, INSTRUCTIONS_AT = LEFT + WIDTH + 20, LEFT + WIDTH + 64
-LEAST, MOST = 1 / 32, 32
-TIME, INSTRUCTIONS = "#1f5f99", "#a9c4dd"
+GCC_AT, CLANG_AT = LEFT + WIDTH + 20, LEFT + WIDTH + 64
+LEAST, MOST = 1 / 8, 8
+GCC, CLANG = "#1f5f99", "#a9c4dd"
 
 
 def across(ratio):
@@ -14,8 +14,6 @@ def across(ratio):
 
 
 def bar(ratio, y, colour):
-    if ratio is None:
-        return ""
     left, right = sorted([across(1), across(ratio)])
     return f'<rect x="{left:.1f}" y="{y}" width="{right - left:.1f}" height="{BAR}" fill="{colour}"/>'
 
@@ -24,14 +22,14 @@ def text(x, y, words, anchor="start", size=12):
     return f'<text x="{x:.1f}" y="{y}" text-anchor="{anchor}" font-size="{size}">{html.escape(words)}</text>'
 
 
-def row(number, name, time, instructions):
+def row(number, name, beside_gcc, beside_clang):
     y = TOP + ROW * number
     return [
         text(LEFT - 8, y + 13, name, "end"),
-        bar(time, y + 3, TIME),
-        bar(instructions, y + 3 + BAR, INSTRUCTIONS),
-        text(TIME_AT, y + 13, f"{time:.2f}" if time else ""),
-        text(INSTRUCTIONS_AT, y + 13, f"{instructions:.2f}"),
+        bar(beside_gcc, y + 3, GCC),
+        bar(beside_clang, y + 3 + BAR, CLANG),
+        text(GCC_AT, y + 13, f"{beside_gcc:.2f}"),
+        text(CLANG_AT, y + 13, f"{beside_clang:.2f}"),
     ]
 
 
@@ -48,16 +46,16 @@ def scale(bottom):
 
 def legend():
     return [
-        text(8, 18, "Ours over theirs: time (dark), instructions (light). Left of 1 the library is the cheaper one.", size=13),
-        text(TIME_AT, TOP - 10, "time", size=11),
-        text(INSTRUCTIONS_AT, TOP - 10, "instructions", size=11),
+        text(8, 18, "Instructions, ours over the model's by gcc (dark) and by clang (light). Left of 1 ours are fewer.", size=13),
+        text(GCC_AT, TOP - 10, "gcc", size=11),
+        text(CLANG_AT, TOP - 10, "clang", size=11),
     ]
 
 
 def svg(rows):
-    """`rows` has a name, a ratio of times, or None, and a ratio of instructions each."""
+    """`rows` has a name and two ratios each."""
     bottom = TOP + ROW * len(rows) + 4
-    width = INSTRUCTIONS_AT + 80
+    width = CLANG_AT + 80
     parts = [f'<svg xmlns="http://www.w3.org/2000/svg" width="{width}" height="{bottom + 12}" font-family="sans-serif">']
     parts += ['<rect width="100%" height="100%" fill="white"/>'] + legend() + scale(bottom)
     for number, values in enumerate(rows):

@@ -1,138 +1,122 @@
-"""Turns what bench/run.sh has measured into the tables of docs/BENCH.md and into docs/bench.svg. Ends non-zero where a ratio
-above 1 stands in a table and its call is not named under "Where we are slower"."""
+"""Turns what bench/run.sh has measured into the tables of docs/BENCH.md and into docs/bench.svg.
+
+Judges by instructions alone, which are the same on every machine. Ends with status 1 where a call takes more of them than the model
+by either compiler and is not named under "Where we are slower", and where it takes more than bench/limits.txt allows."""
 import pathlib
-import re
 import sys
 
 import blocks
+import counted
+import limits
 import picture
 
-WORK = pathlib.Path("target/bench")
-NOISE = 1.05  # of time; instructions have none
-SHORT = 2  # nanoseconds: two calls so short are not told apart
+SHORT = 2  # nanoseconds: what is shorter is not told from the clock's own time
+MODELS = ["gcc", "clang"]
+SIDES = ["ours", *MODELS]
+WAYS = ["proved", "256 entries", "zlib"]
 SERIES = ["Program", "Read back", "Verify", "Range erase", "Mass erase"]
 
 
 def lines_of(name):
-    return [line.split("\t") for line in (WORK / name).read_text().splitlines()]
-
-
-def counts_of(program):
-    """What callgrind wrote at the end of each call: the call's title, and how many instructions it had."""
-    counts = {}
-    for path in (WORK / "counts").glob(program + ".*"):
-        text = path.read_text()
-        title = re.search(r"^desc: Trigger: Client Request: (.*)$", text, re.M)
-        if title:
-            counts[tuple(title[1].split("\t"))] = int(re.search(r"^summary: (\d+)$", text, re.M)[1])
-    return counts
+    return [line.split("\t") for line in (counted.WORK / name).read_text().splitlines()]
 
 
 class Case:
-    def __init__(self, line, counts):
-        self.name, self.detail = line[0], line[1]
+    def __init__(self, line, steps):
+        self.name, self.title = line[0], counted.title_of(line[0], line[1])
         self.bytes, self.only_a_size = int(line[2]), line[3] == "1"
-        self.ours, self.model = float(line[4]), float(line[5])
-        self.ours_count = counts["ours", self.name, self.detail]
-        self.model_count = counts["model", self.name, self.detail]
-        is_short = max(self.ours, self.model) < SHORT
-        self.time_ratio = None if is_short else self.ours / self.model
-        self.count_ratio = self.ours_count / self.model_count
+        self.times = dict(zip(SIDES, map(float, line[4:]), strict=True))
+        self.steps = steps[self.title]
 
-    def title(self):
-        return f"{self.name}, {self.detail}" if self.detail else self.name
+    def ratio(self, model):
+        return self.steps["ours"] / self.steps[model]
 
-    def is_slower(self):
-        return self.time_ratio is not None and self.time_ratio > NOISE
-
-    def costs_more(self):
-        return self.is_slower() or self.count_ratio > 1
+    def takes_more(self):
+        return any(self.ratio(model) > 1 for model in MODELS)
 
 
 def nanoseconds(time):
+    if time < SHORT:
+        return f"below {SHORT}"
     return f"{time:.1f}" if time < 100 else f"{time:,.0f}"
 
 
-def call_time(time):
-    return nanoseconds(time) if time >= SHORT else f"below {SHORT}"
+def ratio(number):
+    return f"**{number:.2f}**" if number > 1 else f"{number:.2f}"
 
 
-def ratio(number, is_above):
-    if number is None:
-        return ""
-    return f"**{number:.2f}**" if is_above else f"{number:.2f}"
-
-
-def command_table(cases):
-    heads = ["call", "ours, ns", "model, ns", "ratio", "ours, instructions", "model, instructions", "ratio"]
-    rows = [[case.title(), call_time(case.ours), call_time(case.model), ratio(case.time_ratio, case.is_slower()),
-             f"{case.ours_count:,}", f"{case.model_count:,}", ratio(case.count_ratio, case.count_ratio > 1)] for case in cases]
+def call_table(cases):
+    heads = ["call", "ours", "gcc", "ratio", "clang", "ratio", "ours, ns", "gcc, ns", "clang, ns"]
+    rows = []
+    for case in cases:
+        beside = [cell for model in MODELS for cell in (f"{case.steps[model]:,}", ratio(case.ratio(model)))]
+        rows.append([case.title, f"{case.steps['ours']:,}", *beside, *(nanoseconds(case.times[side]) for side in SIDES)])
     return blocks.table(heads, rows)
 
 
 def size_rows(cases):
     before = None
     for case in cases:
-        more = "" if before is None else f"{(case.ours - before.ours) / (case.bytes - before.bytes):.3f}"
-        yield [case.name, f"{case.bytes:,}", nanoseconds(case.ours), f"{case.ours / case.bytes:.3f}", more,
-               nanoseconds(case.model), f"{case.model / case.bytes:.3f}"]
+        row = [case.name, f"{case.bytes:,}"]
+        for side in SIDES:
+            more = "" if before is None else f"{(case.steps[side] - before.steps[side]) / (case.bytes - before.bytes):.2f}"
+            row += [f"{case.steps[side]:,}", more]
+        yield row + [nanoseconds(case.times["ours"])]
         before = case
 
 
 def size_table(cases):
-    heads = ["call", "bytes", "ours, ns", "ns a byte", "ns for each further byte", "model, ns", "ns a byte"]
-    rows = [row for name in SERIES for row in size_rows([case for case in cases if case.name == name])]
+    heads = ["call", "bytes", "ours", "each further byte", "gcc", "each further byte", "clang", "each further byte", "ours, ns"]
+    return blocks.table(heads, [row for name in SERIES for row in size_rows([case for case in cases if case.name == name])])
+
+
+def times_as_fast(proved, other):
+    return f"{other / proved:.2f}" if min(proved, other) >= SHORT else ""
+
+
+def checksum_table():
+    heads = ["bytes", *WAYS, *(f"{way}, ns" for way in WAYS), "x 256 entries", "x zlib"]
+    rows, steps = [], counted.of_checksums()
+    for line in lines_of("checksums.times"):
+        size, times = int(line[0]), [float(time) for time in line[1:]]
+        rows.append([f"{size:,}", *(f"{steps[size][way]:,}" for way in WAYS), *map(nanoseconds, times),
+                     *(times_as_fast(times[0], other) for other in times[1:])])
     return blocks.table(heads, rows)
-
-
-def checksum_table(lines, counts):
-    heads = ["bytes", "proved, ns", "256 entries, ns", "zlib, ns", "x 256 entries", "x zlib", "proved, instructions",
-             "256 entries, instructions", "zlib, instructions"]
-    rows = []
-    for line in lines:
-        proved, table, zlib = (float(time) for time in line[1:4])
-        executed = [f"{counts[way, line[0]]:,}" for way in ("proved", "256 entries", "zlib")]
-        rows.append([f"{int(line[0]):,}", nanoseconds(proved), nanoseconds(table), nanoseconds(zlib),
-                     f"{table / proved:.2f}", f"{zlib / proved:.2f}"] + executed)
-    return blocks.table(heads, rows)
-
-
-def checksum_rows(lines, counts):
-    """The checksum beside each of its rivals, for the picture."""
-    for place, rival in [(2, "256 entries"), (3, "zlib")]:
-        for line in lines:
-            yield (f"Checksum, {int(line[0]):,}, beside {rival}", float(line[1]) / float(line[place]),
-                   counts["proved", line[0]] / counts[rival, line[0]])
 
 
 def machine():
     said = dict(lines_of("machine.tsv"))
-    return (f"Measured on: {said['processor']}, {said['processors']} processors; gcc {said['gcc']}, zlib {said['zlib']}, "
-            f"valgrind {said['valgrind']}.")
+    text = (f"Instructions: qemu-x86_64 {said['qemu']}, gcc {said['gcc']}, the toolchain's clang {said['clang']}, "
+            f"zlib {said['zlib']}. Times: {said['processor']}, {said['processors']} processors")
+    if said["machine"] == "x86_64":
+        return text + ", the archive as it is shipped."
+    return text + (f". This processor ({said['machine']}) cannot run the archive, so what is timed of ours is the archive's own "
+                   "modules, compiled for it by the toolchain's clang at -O3; both models are compiled for it too.")
 
 
 def unexplained(cases):
     said = blocks.section("Where we are slower")
-    return sorted({case.name for case in cases if case.costs_more() and case.name not in said})
+    for name in sorted({case.name for case in cases if case.takes_more() and case.name not in said}):
+        yield f"{name} takes more instructions than the model's, and docs/BENCH.md does not say why"
 
 
 def main():
-    counts = counts_of("calls")
-    cases = [Case(line, counts) for line in lines_of("calls.tsv")]
+    steps = counted.of_calls()
+    cases = [Case(line, steps) for line in lines_of("calls.times")]
     shown = [case for case in cases if not case.only_a_size]
     blocks.replace("machine", machine())
-    blocks.replace("calls", command_table(shown))
+    blocks.replace("calls", call_table(shown))
     blocks.replace("sizes", size_table(cases))
-    sums, sum_counts = lines_of("checksums.tsv"), counts_of("checksums")
-    blocks.replace("checksum", checksum_table(sums, sum_counts))
-    rows = [(case.title(), case.time_ratio, case.count_ratio) for case in shown]
-    pathlib.Path("docs/bench.svg").write_text(picture.svg(rows + list(checksum_rows(sums, sum_counts))))
-    slower = sum(case.is_slower() for case in shown)
-    print(f"bench: {len(shown)} calls, {slower} slower than the model; docs/BENCH.md has the figures")
-    missing = unexplained(shown)
-    for name in missing:
-        print(f"bench: {name} costs more than the model's, and docs/BENCH.md does not say why")
-    return 1 if missing else 0
+    blocks.replace("checksum", checksum_table())
+    rows = [(case.title, *(case.ratio(model) for model in MODELS)) for case in shown]
+    pathlib.Path("docs/bench.svg").write_text(picture.svg(rows))
+    more = [sum(case.ratio(model) > 1 for case in shown) for model in MODELS]
+    print(f"bench: of {len(shown)} calls {more[0]} take more instructions than the model by gcc, {more[1]} than by clang; "
+          "docs/BENCH.md has the figures")
+    faults = [*unexplained(cases), *limits.faults({case.title: case.ratio("clang") for case in cases})]
+    for fault in faults:
+        print(f"bench: {fault}")
+    return 1 if faults else 0
 
 
 if __name__ == "__main__":

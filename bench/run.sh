@@ -1,70 +1,82 @@
 #!/bin/sh
-# Measures the library beside the model in C, and the checksum beside its rivals, and rewrites the figures of docs/BENCH.md and
-# docs/bench.svg. `make bench` runs it. Wants an x86-64 machine, gcc and python3; valgrind, and zlib with its header, it installs
-# where it can. What it makes stands below target/bench/.
+# Measures the library beside the model in C, the checksum beside its rivals, and the stack, and rewrites the tables of docs/BENCH.md
+# and docs/bench.svg. `make bench` runs it. Instructions are counted by the emulator; times are this machine's, and decide nothing.
+# Wants Debian and python3, and installs what else it needs. What it makes stands below target/bench/.
 set -eu
 cd "$(dirname "$0")/.."
 work=target/bench
-case $(uname -m) in
-x86_64) ;;
-*)
-    echo "bench: the library is x86-64 code, and only such a machine can time it; this one is $(uname -m)" >&2
-    exit 2
-    ;;
-esac
+counted=$work/counted
+timed=$counted
 
-need() { # FILE PACKAGE
-    [ -e "$1" ] || { apt-get update && apt-get install -y "$2"; } >/dev/null 2>&1 || {
-        echo "bench: needs $1 (Debian: $2), and could not install it" >&2
-        exit 2
+say() { echo "bench: $*"; }
+
+find_emulator() {
+    command -v qemu-x86_64 >/dev/null || { apt-get update && apt-get install -y qemu-user; } >/dev/null 2>&1 || {
+        say "needs qemu-x86_64 (Debian: qemu-user), and could not install it" >&2
+        return 1
     }
 }
 
-build() {
-    $cc -I. -Ibench/programs bench/programs/calls.c bench/programs/sides.c bench/programs/cases.c bench/programs/boards.c \
-        bench/programs/bits.c bench/programs/turns.c rig/model/model.c \
-        "$library" -o $work/calls
-    $cc -I. -Ibench/programs bench/programs/checksums.c bench/programs/bits.c bench/programs/turns.c "$exported" -lz -o $work/checksums
+# What is timed where the processor is another: the same modules, compiled for it.
+build_timed() {
+    timed=$work/timed
+    mkdir -p $timed
+    compile_natively target/staticlib/rig.bc $timed/rig.o
+    compile_natively target/staticlib/rig_offline.bc $timed/rig_offline.o
+    compile_natively "$exported_module" $timed/export.o
+    build_calls "$(uname -m)" $timed $timed/rig.o $timed/rig_offline.o
+    build_checksums "$(uname -m)" $timed $timed/export.o "$native_zlib"
 }
 
-# Instructions are counted from the entry of these functions to their return.
-count() { # PROGRAM FUNCTION..
-    program=$1
-    shift
-    toggles=
-    for function in "$@"; do toggles="$toggles --toggle-collect=$function"; done
-    valgrind --tool=callgrind $toggles --callgrind-out-file="$work/counts/$program" "$work/$program" count \
-        >"$work/$program.valgrind" 2>&1 || {
-        cat "$work/$program.valgrind" >&2
-        exit 1
-    }
+agree() { # FOLDER EMULATOR
+    for program in calls checksums; do
+        $2 "$1/$program" agree || {
+            say "$program: the sides do not agree, so nothing is measured" >&2
+            exit 1
+        }
+    done
 }
 
 machine() {
-    sed -n 's/^model name[^:]*: /processor\t/p' /proc/cpuinfo | head -n 1
+    printf 'processor\t%s\n' "$(lscpu | sed -n 's/^Model name: *//p' | head -n 1)"
+    printf 'machine\t%s\n' "$(uname -m)"
     printf 'processors\t%s\n' "$(nproc)"
-    printf 'gcc\t%s\n' "$(gcc -dumpfullversion)"
-    printf 'zlib\t%s\n' "$(sed -n 's/^#define ZLIB_VERSION "\(.*\)"/\1/p' /usr/include/zlib.h)"
-    printf 'valgrind\t%s\n' "$(valgrind --version | sed 's/valgrind-//')"
+    printf 'gcc\t%s\n' "$(x86_64-linux-gnu-gcc -dumpfullversion)"
+    printf 'clang\t%s\n' "$($clang --version | sed -n '1s/.*version \([0-9.]*\).*/\1/p')"
+    printf 'zlib\t%s\n' "$($timed/checksums zlib)"
+    printf 'qemu\t%s\n' "$(qemu-x86_64 --version | sed -n '1s/.*version \([0-9.]*\).*/\1/p')"
 }
 
-need /usr/bin/valgrind valgrind
-need /usr/include/zlib.h zlib1g-dev
-mkdir -p $work
+mkdir -p $counted
 . rig/toolchain.sh
-. bench/export_checksum.sh
-echo "bench: building; the library is proved first where it is not there"
+. bench/building/export_checksum.sh
+. bench/building/programs.sh
+. bench/building/zlib.sh
+say "looking for the compilers, the emulator and zlib"
+find_compiler
+find_emulator
+find_zlib
+say "building; the library and the checksum are proved first where they are not there, which takes minutes"
 build_library
 export_checksum
-build
-rm -rf $work/counts
-mkdir -p $work/counts
-echo "bench: counting instructions"
-count calls bhorelmu_start model_start bhorelmu_call model_call bhorelmu_settings_read model_settings_read \
-    bhorelmu_settings_write model_settings_write bhorelmu_rate model_rate
-count checksums proved_checksum table_checksum zlib_checksum
-echo "bench: timing"
-$work/calls time >$work/calls.tsv
-$work/checksums time >$work/checksums.tsv
+build_calls x86_64 $counted "$library"
+build_checksums x86_64 $counted "$exported" "$zlib"
+[ "$(uname -m)" = x86_64 ] || build_timed
+say "comparing the sides"
+agree $counted qemu-x86_64
+agree $timed ""
+say "counting instructions, some 15 seconds"
+python3 -B bench/count.py $counted/calls >$work/calls.counts
+python3 -B bench/count.py $counted/checksums >$work/checksums.counts
+say "timing, some 30 seconds"
+$timed/calls time >$work/calls.times
+$timed/checksums time >$work/checksums.times
 machine >$work/machine.tsv
-python3 -B bench/report.py
+say "reading the stack off the code"
+status=0
+sh stack/run.sh >$work/stack.log || {
+    cat $work/stack.log >&2
+    status=1
+}
+python3 -B bench/report.py || status=1
+exit $status

@@ -1,5 +1,6 @@
 # How C is compiled and run beside the library, whose archive is x86-64 code: plainly on such a machine, elsewhere by a cross
-# compiler and an emulator. To be sourced; sets `cc`, `run` and `library`.
+# compiler and an emulator. To be sourced in the repository's root; sets `cc`, `run` and `library`.
+. tools/kit.sh
 flags="-std=c11 -O2 -Wall -Wextra -Wpedantic -Werror -Iinclude"
 library=target/staticlib/libbhorelmu.a
 
@@ -21,22 +22,23 @@ find_compiler() {
     apt-get update >/dev/null && apt-get install -y gcc-x86-64-linux-gnu libc6-dev-amd64-cross qemu-user >/dev/null
 }
 
-# Proves and compiles one crate of the boundary: target/staticlib/CRATE.o.
+# Proves and compiles one crate of the boundary: target/staticlib/CRATE.o, and beside it CRATE.bc, the module that it was made of.
 compile_crate() { # CRATE
-    rt staticlib "$1" >target/staticlib.log 2>&1 || {
+    RATTLE_HOME=$PWD/target/kit rt staticlib "$1" >target/staticlib.log 2>&1 || {
         cat target/staticlib.log
         return 1
     }
+    mv target/kit/module.bc "target/staticlib/$1.bc"
     (cd target/staticlib && $ar x "lib$1.a")
 }
 
 # The library, unless it is made of the crates as they stand.
 build_library() {
-    if tools/is_current.sh "$library"; then
+    if tools/is_current.sh "$library" && tools/is_current.sh target/staticlib/rig_offline.bc; then
         return 0
     fi
     mkdir -p target
-    find_compiler && compile_crate rig && compile_crate rig_offline || return 1
+    find_compiler && make_keeping_kit && compile_crate rig && compile_crate rig_offline || return 1
     rm -f "$library"
     $ar rcs "$library" target/staticlib/rig.o target/staticlib/rig_offline.o
 }

@@ -16,7 +16,7 @@ PROMISES = pathlib.Path("docs/PROMISES.md")
 # How a document cites: names, and beside them the files that have them or the one crate, record, struct or enum.
 NAME = r"`[A-Za-z][\w'-]*`"
 NAMES = rf"{NAME}(?:(?:,|,?\s+and)\s+{NAME})*"
-FILE = r"`(?:crates|docs|tests|include|rig|tools|bench)/[\w./-]+`"
+FILE = r"`(?:crates|docs|tests|include|rig|tools|bench|stack)/[\w./-]+`"
 NAMES_IN_FILES = re.compile(rf"({NAMES})\s+(?:\(|in\s+)({FILE}(?:,\s+{FILE})*)")
 NAMES_OF_OWNER = re.compile(rf"({NAMES})\s+(?:of|in)\s+({NAME})")
 NAME_OF_OWNER = re.compile(r"`(\w+)::(\w+)`")

@@ -40,16 +40,26 @@ static uint32_t no_rate(uint32_t id)
 
 static const struct loader_functions nothing = {no_start, no_call, no_read, no_write, no_rate};
 
-static const struct loader_functions *const functions_of[SIDES] = {
-    [OURS] = &product_functions,
-    [MODEL] = &model_functions,
-    [NOTHING] = &nothing,
-};
+const char *const side_names[SIDES] = {[OURS] = "ours", [GCC] = "gcc", [CLANG] = "clang", [NOTHING] = "nothing"};
+
+static const struct loader_functions *functions_of(enum which which)
+{
+    switch (which) {
+    case OURS:
+        return &product_functions;
+    case GCC:
+        return &model_functions;
+    case CLANG:
+        return clang_functions;
+    default:
+        return &nothing;
+    }
+}
 
 void begin(struct side *side, enum which which, const struct bench_case *bench_case, const struct board *fresh)
 {
     side->bench_case = bench_case;
-    side->functions = functions_of[which];
+    side->functions = functions_of(which);
     side->fresh = fresh;
     side->now = *fresh;
     memset(side->reply, 0xA5, sizeof side->reply);
@@ -99,12 +109,12 @@ static bool answers_right(const struct side *side, size_t calls)
     return !is_message || side->reply[5] == side->bench_case->message;
 }
 
-bool sides_agree(const struct side *ours, const struct side *model, size_t calls)
+bool sides_agree(const struct side *side, const struct side *model, size_t calls)
 {
     for (size_t i = 0; i < calls; i++)
-        if (memcmp(ours->records[i], model->records[i], RECORD_SIZE) != 0)
+        if (memcmp(side->records[i], model->records[i], RECORD_SIZE) != 0)
             return false;
-    return answers_right(ours, calls) && answers_right(model, calls) &&
-           memcmp(&ours->now, &model->now, sizeof ours->now) == 0 &&
-           memcmp(ours->reply, model->reply, sizeof ours->reply) == 0;
+    return answers_right(side, calls) && answers_right(model, calls) &&
+           memcmp(&side->now, &model->now, sizeof side->now) == 0 &&
+           memcmp(side->reply, model->reply, sizeof side->reply) == 0;
 }

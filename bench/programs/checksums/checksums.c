@@ -1,48 +1,33 @@
 /*
  * The checksum beside a table of 256 entries and zlib's.
  *
- *     checksums time      nanoseconds a call: bytes, proved, 256 entries, zlib
- *     checksums count     each call once, for callgrind, which writes what each has executed
- *
- * All must agree with the checksum bit by bit first, at every length up to 4,096.
+ *     checksums agree    all must agree with the checksum bit by bit, at every length up to 4,096
+ *     checksums time     nanoseconds a call: bytes, proved, 256 entries, zlib
+ *     checksums count    each call once, between two marks, for bench/count.py: way, bytes
+ *     checksums zlib     the version of zlib
  */
 #include "bits.h"
+#include "mark.h"
+#include "bench/programs/rivals/table.h"
 #include "turns.h"
 
 #include <stdbool.h>
 #include <stdio.h>
 #include <string.h>
-#include <valgrind/callgrind.h>
-#include <zlib.h>
 
 typedef uint32_t checksum_fn(const uint8_t *bytes, size_t count);
 
 /* Rattle: the export of checksum::checksum_of. */
 checksum_fn proved_checksum;
 
-static uint32_t table[256];
-
-static void make_table(void)
-{
-    for (uint32_t n = 0; n < 256; n++) {
-        table[n] = n;
-        for (int bit = 0; bit < 8; bit++)
-            table[n] = (table[n] >> 1) ^ ((table[n] & 1) ? 0xEDB88320u : 0);
-    }
-}
-
-uint32_t table_checksum(const uint8_t *bytes, size_t count)
-{
-    uint32_t sum = 0xFFFFFFFFu;
-    for (size_t i = 0; i < count; i++)
-        sum = (sum >> 8) ^ table[(sum ^ bytes[i]) & 0xFF];
-    return sum;
-}
+/* As zlib.h has them, which a cross compiler has not. */
+unsigned long crc32(unsigned long sum, const unsigned char *bytes, unsigned count);
+const char *zlibVersion(void);
 
 /* zlib inverts at the end, and we do not. */
-uint32_t zlib_checksum(const uint8_t *bytes, size_t count)
+static uint32_t zlib_checksum(const uint8_t *bytes, size_t count)
 {
-    return ~(uint32_t)crc32(0, bytes, (uInt)count);
+    return ~(uint32_t)crc32(0, bytes, (unsigned)count);
 }
 
 static uint32_t no_checksum(const uint8_t *bytes, size_t count)
@@ -52,9 +37,9 @@ static uint32_t no_checksum(const uint8_t *bytes, size_t count)
 }
 
 enum { PROVED, TABLE, ZLIB, NOTHING, WAYS };
-enum { LONGEST = 65536, CALLS_MOST = 4096, PASSES = 100, TURNS = 25 };
+enum { LONGEST = 65536, CALLS_MOST = 4096, PASSES = 40, TURNS = 25 };
 
-static const size_t sizes[] = {1, 8, 64, 1024, 1721, 65536};
+static const size_t sizes[] = {1, 8, 33, 64, 1024, 1721, 65536};
 enum { SIZES = sizeof sizes / sizeof *sizes };
 
 static struct way {
@@ -118,15 +103,15 @@ static void time_all(void)
     }
 }
 
-/* The second call is counted; the first has bound what the linker binds late. */
-static void count_way(const struct way *way, size_t count)
+static void count_all(void)
 {
-    char title[64];
-    snprintf(title, sizeof title, "%s\t%zu", way->name, count);
-    sink = way->sum(bytes, count);
-    CALLGRIND_ZERO_STATS;
-    sink = way->sum(bytes, count);
-    CALLGRIND_DUMP_STATS_AT(title);
+    for (int size = 0; size < SIZES; size++)
+        for (int way = 0; way < NOTHING; way++) {
+            printf("%s\t%zu\n", ways[way].name, sizes[size]);
+            mark();
+            sink = ways[way].sum(bytes, sizes[size]);
+            mark();
+        }
 }
 
 int main(int count, char **words)
@@ -137,13 +122,13 @@ int main(int count, char **words)
     for (size_t i = 0; i < LONGEST; i++)
         bytes[i] = (uint8_t)((noise = noise * 1664525u + 1013904223u) >> 24);
     make_table();
-    if (!all_agree())
-        return 1;
+    if (strcmp(words[1], "agree") == 0)
+        return all_agree() ? 0 : 1;
     if (strcmp(words[1], "time") == 0)
         time_all();
     if (strcmp(words[1], "count") == 0)
-        for (int size = 0; size < SIZES; size++)
-            for (int way = 0; way < NOTHING; way++)
-                count_way(&ways[way], sizes[size]);
+        count_all();
+    if (strcmp(words[1], "zlib") == 0)
+        puts(zlibVersion());
     return 0;
 }

@@ -1,8 +1,10 @@
-# Makes target/bench/checksum/target/staticlib/libexport.a, which has checksum::checksum_of for C. To be sourced in the repository's root.
+# Makes target/bench/checksum/target/staticlib/libexport.a, which has checksum::checksum_of for C, and beside it the module that it
+# was made of. To be sourced in the repository's root, after rig/toolchain.sh.
 #
 # A static library exports only what is marked extern "C", and the checksum is for Rattle alone. So the export is a crate of
 # its own, made here beside copies of the crates it stands on, and `rt staticlib` proves and compiles it as it does the product.
 exported=target/bench/checksum/target/staticlib/libexport.a
+exported_module=target/bench/checksum/target/staticlib/export.bc
 
 copy_crate() { # NAME
     rm -rf "target/bench/checksum/crates/$1"
@@ -34,15 +36,18 @@ export_checksum() {
     below=$(sed -n 's/^checksum://p' crates.txt)
     sources="crates.txt crates/checksum"
     for crate in $below; do sources="$sources crates/$crate"; done
-    if [ -f "$exported" ] && [ -z "$(find $sources -newer "$exported" -type f | head -n 1)" ]; then
+    if [ -f "$exported_module" ] && [ -z "$(find $sources -newer "$exported_module" -type f | head -n 1)" ]; then
         return 0
     fi
     mkdir -p target/bench/checksum
     : >target/bench/checksum/crates.txt
     for crate in $below checksum; do copy_crate "$crate"; done
     write_export
-    (cd target/bench/checksum && rt staticlib export) >target/bench/checksum/log 2>&1 || {
+    make_keeping_kit
+    (RATTLE_HOME=$PWD/target/kit && export RATTLE_HOME && cd target/bench/checksum && rt staticlib export) \
+        >target/bench/checksum/log 2>&1 || {
         cat target/bench/checksum/log >&2
         return 1
     }
+    mv target/kit/module.bc "$exported_module"
 }

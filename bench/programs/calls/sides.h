@@ -3,8 +3,11 @@
 
 #include "cases.h"
 
-/* The library, the model, and a side that answers at once, whose time is that of the measuring. */
-enum which { OURS, MODEL, NOTHING, SIDES };
+/* The library, the model by two compilers, and a side that answers at once, whose time is that of the measuring. */
+enum which { OURS, GCC, CLANG, NOTHING, SIDES };
+
+extern const char *const side_names[SIDES];
+extern const struct loader_functions *const clang_functions; /* of bench/programs/rivals/model_by_clang.c */
 
 enum { CALLS_MOST = 128, RECORD_ROOM = 128 };
 
@@ -13,8 +16,8 @@ struct side {
     const struct loader_functions *functions;
     const struct board *fresh;
     struct board now;
-    uint8_t reply[REPLY_SIZE];
-    uint8_t records[CALLS_MOST][RECORD_ROOM];
+    AREA reply[REPLY_SIZE];
+    AREA records[CALLS_MOST][RECORD_ROOM];
     uint64_t answers[CALLS_MOST];
 };
 
@@ -29,7 +32,7 @@ void renew_records(void *side, size_t calls);
 
 void make_calls(void *side, size_t calls);
 
-/* Whether both sides have answered alike and as the case says, and left the same in every area. */
-bool sides_agree(const struct side *ours, const struct side *model, size_t calls);
+/* Whether a side has answered as the model and as the case says, and left the same in every area. */
+bool sides_agree(const struct side *side, const struct side *model, size_t calls);
 
 #endif

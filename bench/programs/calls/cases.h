@@ -42,9 +42,15 @@ extern const size_t bench_case_count;
 size_t main_size_of(const struct bench_case *bench_case);
 size_t reply_size_of(const struct bench_case *bench_case);
 
+/* Each area begins as a cache line does, so that the sides do not differ in where theirs lie. */
+#define AREA _Alignas(64) uint8_t
+
 struct board {
-    uint8_t main_flash[MAIN_MOST], settings[SETTINGS_SIZE], fields[FIELDS_SIZE], record[RECORD_SIZE];
-    uint8_t packet[PACKET_MOST];
+    AREA main_flash[MAIN_MOST];
+    AREA settings[SETTINGS_SIZE];
+    AREA fields[FIELDS_SIZE];
+    AREA record[RECORD_SIZE];
+    AREA packet[PACKET_MOST];
     size_t packet_size;
 };
 

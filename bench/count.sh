@@ -1,0 +1,19 @@
+#!/bin/sh
+# Counts the instructions of every call of the bench and prints them: ours, the model's by gcc and by clang, and both ratios.
+#
+#     sh bench/count.sh             the library as it is shipped
+#     sh bench/count.sh OBJECT..    other objects or archives with the functions of bhorelmu.h, such as a trial's
+set -eu
+cd "$(dirname "$0")/.."
+work=target/bench/counted
+mkdir -p $work
+. rig/toolchain.sh
+. bench/building/programs.sh
+find_compiler
+if [ $# -eq 0 ]; then
+    build_library
+    set -- "$library"
+fi
+build_calls x86_64 $work "$@"
+qemu-x86_64 $work/calls agree
+python3 -B bench/count.py $work/calls | python3 -B bench/counted.py

@@ -1,0 +1,5 @@
+#include "mark.h"
+
+void mark(void)
+{
+}

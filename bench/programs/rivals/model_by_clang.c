@@ -1,0 +1,13 @@
+/* The model once more, under names of its own: bench/building/programs.sh has this file compiled by the toolchain's own clang. */
+#define model_start clang_start
+#define model_call clang_call
+#define model_settings_read clang_settings_read
+#define model_settings_write clang_settings_write
+#define model_rate clang_rate
+#define model_functions names_by_clang
+
+#include "rig/model/model.c"
+
+#include "rig/model/functions.h"
+
+const struct loader_functions *const clang_functions = &names_by_clang;
