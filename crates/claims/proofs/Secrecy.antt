@@ -7,3 +7,5 @@ pub mod LockedCall
 pub mod ToldApart
 -- ToldApartFromC: demand 3 as C sees it.
 pub mod ToldApartFromC
+-- AnyPerson: demand 3 for a person who chooses each wait and packet by the replies so far, by value and from C.
+pub mod AnyPerson

@@ -1,9 +1,13 @@
 -- What holds of every start, call, record and script.
 -- CallRules: what holds of every start and of every call.
 pub mod CallRules
+-- ExactConnect: which eight bytes are answered in detect.
+pub mod ExactConnect
+-- BitsBeyondMain: protection bits for sectors that MAIN does not have do nothing.
+pub mod BitsBeyondMain
 -- NumberRule: every call has an answer, and which numbers of 01 it can have.
 pub mod NumberRule
--- HeldSessions: a valid session whose settings were read of bytes can be held.
+-- HeldSessions: a valid session whose settings can be held can be held itself.
 pub mod HeldSessions
 -- RecordRule: a session record is encoded and decoded by one rule.
 pub mod RecordRule

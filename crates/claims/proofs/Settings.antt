@@ -11,3 +11,7 @@ pub mod Accepted
 pub mod SettingsRule
 -- FieldsRule: the fields of some settings are read and made by one rule.
 pub mod FieldsRule
+-- HeldSettings: settings that are read of bytes can be held.
+pub mod HeldSettings
+-- SettingsRuleFromC: from C too, the settings image is read and written by one rule.
+pub mod SettingsRuleFromC

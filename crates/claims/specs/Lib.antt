@@ -7,5 +7,7 @@ pub mod MadeScript
 pub mod TwoBoards
 -- TwoBoardsFromC: the same, as C sees it.
 pub mod TwoBoardsFromC
+-- Visits: the same for a person who chooses each wait and packet by the replies so far.
+pub mod Visits
 -- Trials: boards and packets on which it is tried.
 pub mod Trials

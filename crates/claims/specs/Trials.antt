@@ -2,7 +2,7 @@
 use Prim.Native.Nat.{ℕ}
 use mathlib.Core.Path.{_≡_}
 use mathlib.Core.List.{List, [], _∷_, _++_}
-use lib.ListN.{length, replicate}
+use lib.ListN.{length, take, replicate}
 use Rattle.octets.specs.Number.{bytesOf}
 use Rattle.checksum.specs.Checksum.{checksumOf}
 use Rattle.wire.specs.Codes.{commandHeader, replyLimit, connect, unlock}
@@ -11,45 +11,56 @@ use Rattle.layout.specs.Layout.{form1, imageSize}
 use Rattle.settings.specs.Image.{imageOf}
 use Rattle.regions.specs.Memory.{memory}
 use Rattle.decisions.specs.Unlocking.{alertReset}
+use Rattle.act.specs.Board.{sectorSize}
 use Rattle.loader.specs.Answers.{Left}
-use Rattle.claims.specs.TwoBoards.{Images, Running, settingsOf, started, Sending, WithoutPassword, called, next}
+use Rattle.claims.specs.TwoBoards.{Images, Running, settingsOf, started, Sending, called, next}
+use Rattle.claims.specs.Visits.{Person, Seen}
 
 -- ---- boards
 
+-- MAIN has two sectors
 abbrev pub mainSize : ℕ
-mainSize = 1024
+mainSize = 2048
 
--- "An image of 1,024 bytes 0xFF is blank": its alert is 0, nothing
+-- 01, Settings image: "An image of 1,024 bytes 0xFF is blank": its alert is 0, nothing
 unfoldable pub blankBoard : Images
 blankBoard = memory (replicate mainSize 0xFF) (replicate imageSize 0xFF)
 
--- the settings of a blank image, but for the alert, the version pointer and the passwords, of which each is one byte all through
-abbrev pub chosen : ℕ → ℕ → ℕ → Settings
-chosen alert pointer byte = record {
+-- the settings of a blank image, but for the alert, the version pointer and the passwords, of which each is one byte all through; and where
+-- the guard is 1 the first sector and the settings are protected
+abbrev pub chosen : ℕ → ℕ → ℕ → ℕ → Settings
+chosen alert guard pointer byte = record {
   shown = record {
     «reset_mode» = 1;
     alert = alert;
     readout = 0xFFFF;
-    «settings_protected» = 0;
+    «settings_protected» = guard;
     «bcr_id» = 1;
     «bsl_id» = 1;
     «version_pointer» = pointer;
   };
-  protection = replicate 8 0;
+  protection = guard ∷ replicate 7 0;
   password = replicate 32 byte;
   «reset_password» = replicate 16 byte;
 }
 
 -- a board whose settings were written; in MAIN there are four bytes 0x55, and then one byte all through
 unfoldable pub writtenBoard : Settings → ℕ → Images
-writtenBoard settings byte = memory (replicate 4 0x55 ++ replicate 1020 byte) (imageOf form1 settings)
+writtenBoard settings byte = memory (replicate 4 0x55 ++ replicate 2044 byte) (imageOf form1 settings)
 
--- the alert does nothing, and the version pointer is not good; or the alert resets, and the version is the four bytes 0x55
+-- the alert does nothing, and the version pointer is not good
 abbrev pub quietBoard : ℕ → ℕ → Images
-quietBoard password main = writtenBoard (chosen 0 0xFFFFFFFF password) main
+quietBoard password main = writtenBoard (chosen 0 0 0xFFFFFFFF password) main
+
+-- the alert resets, and the version is the four bytes 0x55; nothing is protected, or the first sector and the settings are
+abbrev pub resetBoard : ℕ → ℕ → ℕ → Images
+resetBoard guard password main = writtenBoard (chosen alertReset guard 0 password) main
 
 abbrev pub strictBoard : ℕ → ℕ → Images
-strictBoard password main = writtenBoard (chosen alertReset 0 password) main
+strictBoard password main = resetBoard 0 password main
+
+abbrev pub guardedBoard : ℕ → ℕ → Images
+guardedBoard password main = resetBoard 1 password main
 
 -- both passwords and both images differ
 pub record Differ (one other : Images) : Type 0 where
@@ -57,6 +68,10 @@ pub record Differ (one other : Images) : Type 0 where
   pub resetPassword : settingsOf one .«reset_password» ≡ settingsOf other .«reset_password» → ⊥
   pub main : one .main ≡ other .main → ⊥
   pub settings : one .settings ≡ other .settings → ⊥
+
+-- the second sector is 0xFF; the first one and the settings are as they were
+abbrev pub secondFF : Images → Images
+secondFF board = memory (take sectorSize (board .main) ++ replicate sectorSize 0xFF) (board .settings)
 
 -- every byte of both images is 0xFF
 abbrev pub allFF : Images → Images
@@ -81,9 +96,17 @@ unlocks byte = sends (unlock ∷ replicate 32 byte)
 
 -- ---- sessions
 
--- three wrong passwords, where the right one does not begin with 0x33
+-- two wrong passwords, and three, where the right one does not begin with 0x33
+abbrev pub twoGuesses : List Sending
+twoGuesses = connects ∷ unlocks 0x33 ∷ unlocks 0x33 ∷ []
+
 abbrev pub threeGuesses : List Sending
 threeGuesses = connects ∷ unlocks 0x33 ∷ unlocks 0x33 ∷ unlocks 0x33 ∷ []
+
+-- a person who guesses so, whatever is seen
+abbrev pub guesser : Person Seen
+guesser [] = connects
+guesser (last ∷ seen) = unlocks 0x33
 
 -- a board after some calls, with the first area of each
 abbrev pub ran : Running → List Sending → Running
@@ -93,8 +116,3 @@ ran board (sending ∷ sendings) = ran (next (called board sending (sending .one
 -- what a board that was connected leaves where the password of a blank board is sent to it
 abbrev pub toBlankPassword : Images → Left
 toBlankPassword images = called (ran (started images) (connects ∷ [])) (unlocks 0xFF) (unlocks 0xFF .oneArea)
-
--- no packet carries a password of the two
-abbrev pub AllWithout : Images → Images → List Sending → Type 0
-AllWithout one other [] = Unit
-AllWithout one other (sending ∷ sendings) = WithoutPassword one other sending × AllWithout one other sendings

@@ -39,11 +39,11 @@ calledFromC board sending reply = callFromC (board .area) (board .memory) (sendi
 abbrev pub nextFromC : Called → RunningFromC
 nextFromC left = record { area = left .area; memory = left .memory }
 
--- "same replies": as many bytes of the reply area as the low half of the returned number says
+-- "Every reply": as many bytes of the reply area as the low half of the returned number says
 abbrev pub repliedFromC : Called → List ℕ
 repliedFromC left = take (left .answer % burnUnit) (left .reply)
 
--- "sleep, rate and phase": a record but for the settings' fields
+-- "sleep, rate and phase included": a record but for the settings' fields
 abbrev pub standsFromC : List ℕ → List ℕ
 standsFromC area = take fieldsAt area
 
@@ -54,16 +54,16 @@ lockIn area = getD area 1 0
 abbrev pub wrongIn : List ℕ → ℕ
 wrongIn area = getD area 2 0
 
--- "cannot be told apart": all that two calls show, and all that they change
+-- all that two calls show, and all that they change
 pub record AlikeFromC (one other : Images) (oneLeft otherLeft : Called) : Type 0 where
   -- no call is refused: the top byte of the number is 0
   pub served : oneLeft .answer < refusalUnit
-  -- "same replies": the returned numbers are the same, and so are the bytes
+  -- "Every reply is the same": the returned numbers, and the bytes
   pub answers : oneLeft .answer ≡ otherLeft .answer
   pub replies : repliedFromC oneLeft ≡ repliedFromC otherLeft
   -- the first 16 bytes of the records: phase, lock, wrong count, rate id, sleep, idle time and the size of MAIN
   pub stands : standsFromC (oneLeft .area) ≡ standsFromC (otherLeft .area)
-  -- "neither unlocks"
+  -- "Neither unlocks."
   pub locked : lockIn (oneLeft .area) ≡ 0
   -- what they can change
   pub oneFlash : Flash one (wrongIn (oneLeft .area)) (oneLeft .memory)
@@ -77,7 +77,7 @@ AlikeCallsFromC one other oneNow otherNow (sending ∷ sendings) =
     → AlikeFromC one other (calledFromC oneNow sending (sending .oneArea)) (calledFromC otherNow sending (sending .otherArea))
     × AlikeCallsFromC one other (nextFromC (calledFromC oneNow sending (sending .oneArea))) (nextFromC (calledFromC otherNow sending (sending .otherArea))) sendings
 
--- over any one session: both starts answer 0 and leave records that are alike, and then all calls are
+-- "through one session": both starts answer 0 and leave records that are alike, and then all calls are
 pub record AlikeSessionsFromC (one other : Images) (oneArea otherArea : List ℕ) (sendings : List Sending) : Type 0 where
   pub oneStarts : startedOn one oneArea .answer ≡ 0
   pub otherStarts : startedOn other otherArea .answer ≡ 0

@@ -1,4 +1,4 @@
--- 01, How tight the promises are: "Show that no second answer fits." What that means, and the one law that shows it.
+-- 01, How tight the promises are: "Show that no second answer fits". What that means, and the one law that shows it.
 use mathlib.Core.Path.{_≡_, refl, sym, ap, _∙_}
 
 -- A promise has one answer: any two that meet it are equal.

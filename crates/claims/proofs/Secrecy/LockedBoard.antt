@@ -35,7 +35,7 @@ module _ (size : ℕ) (protection image : List ℕ) where
   image-keeps-length true = erase-all-keeps-length size protection 0 0 image
   image-keeps-length false = refl
 
-  -- "a flash byte is 0xFF once three wrong passwords were counted .. and the place is unprotected; else it is as at the start"
+  -- where it was struck, what is unprotected is 0xFF, and all else is as at the start
   image-is-as-claimed : (struck : Bool) → AsClaimed size struck protection image (imageThen size struck protection image)
   unfolding imageThen pick
   image-is-as-claimed true place there = erase-all-at size protection image place there
@@ -110,7 +110,7 @@ module _ (images : Images) where
     pub started-is-later : started images ≡ later images atStart
     unfolding imageThen pick
     started-is-later =
-        ap₂ (λ (session : Session) (memory : Memory). record { session = session; memory = memory })
+        ap₂ (λ (session : Session) (images : Memory). record { session = session; memory = images })
         (started-session false (images .main) (images .settings) starts)
         (ap (memoryThen images) (sym not-struck-at-start))
 

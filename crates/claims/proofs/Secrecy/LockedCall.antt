@@ -84,7 +84,7 @@ module _ (images : Images) (standing : Standing) (locked : Locked images standin
   -- so what is done to them follows from how the board then stands
   memory-follows : deedThen images standing sending (decided .effect) .memory ≡ later images (decided .standing) .memory
   memory-follows =
-      only-strikes-change (lets images) _ (sending .packet) _ (λ memory. memory ≡ later images (decided .standing) .memory) (decided .effect) performs-nothing
+      only-strikes-change (lets images) _ (sending .packet) _ (λ left. left ≡ later images (decided .standing) .memory) (decided .effect) performs-nothing
       (λ e. strike-erases images _ ∙ ap (memoryThen images) (sym (strike-is-counted e)))
       (λ none. ap (memoryThen images) (sym (count-is-kept none)))
 
@@ -113,7 +113,7 @@ module _ (images : Images) (standing : Standing) (locked : Locked images standin
     call-is =
         valid-is-served (sessionThen images standing) (later images standing .memory) (sending .wait) (sending .packet) area (locked .valid) room
         ∙ ap (carriedOut (sessionThen images standing) (later images standing .memory) (sending .packet) area) judged-as-wrong
-        ∙ ap₂ (λ (sent : Sent) (memory : Memory). left (callTold 0 (sent .size) (decided .burn)) (sessionThen images (decided .standing)) memory (sent .area))
+        ∙ ap₂ (λ (sent : Sent) (after : Memory). left (callTold 0 (sent .size) (decided .burn)) (sessionThen images (decided .standing)) after (sent .area))
         told-whole memory-follows
 
     -- without the password a locked session stays locked

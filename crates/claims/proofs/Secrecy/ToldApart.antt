@@ -1,4 +1,4 @@
--- Demand 3: "Two boards alike but for passwords and flash contents (version bytes excepted) cannot be told apart by anyone without a password".
+-- Demand 3: "Every reply is the same, sleep, rate and phase included. Neither unlocks."
 -- Both boards follow from their start and from how they stand, and at every call they stand alike.
 use mathlib.Core.Path.{_≡_, refl, sym, ap, ap₂, subst, _∙_}
 use mathlib.Core.Bool.{false}

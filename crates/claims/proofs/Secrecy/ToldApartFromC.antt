@@ -33,12 +33,13 @@ use Rattle.claims.specs.TwoBoardsFromC.{RunningFromC, startedOn, started
 use Rattle.claims.proofs.Sessions.CallRules.{every-start, valid-is-served, valid-stays-valid, started-is-valid, started-session}
 use Rattle.claims.proofs.Sessions.RecordRule.{decode-after-encode, encoded-is-record}
 use Rattle.claims.proofs.Secrecy.LockedBoard.{HasRecord}
-use Rattle.claims.proofs.Sessions.HeldSessions.{read-is-held, valid-is-held}
+use Rattle.claims.proofs.Settings.HeldSettings.{read-is-held}
+use Rattle.claims.proofs.Sessions.HeldSessions.{valid-is-held}
 use Rattle.claims.proofs.Secrecy.ToldApart.{two-boards-are-alike}
 
 -- ---- a board, as C has it
 
-abbrev fromC : Running → RunningFromC
+abbrev pub fromC : Running → RunningFromC
 fromC board = record { area = recordOf (board .session); memory = board .memory }
 
 -- what a call leaves, as C has it
@@ -102,7 +103,7 @@ locked-says-0 Standby h = refl
 locked-says-0 Ended h = refl
 locked-says-0 Disabled h = refl
 
-lock-is-0 : (session : Session) → isUnlocked (session .standing .phase) ≡ false → lockIn (recordOf session) ≡ 0
+pub lock-is-0 : (session : Session) → isUnlocked (session .standing .phase) ≡ false → lockIn (recordOf session) ≡ 0
 unfolding recordOf
 lock-is-0 session shut = locked-says-0 (session .standing .phase) shut
 
@@ -177,7 +178,7 @@ module _ (images : Images) (area : List ℕ) (lent : Lent images area) (starts :
   start-from-C =
       rw (start-accepts (images .main) (images .settings) starts .0, eq-eqb (length area) recordSize (lent .size))
 
-  started-from-C : startedFromC images area ≡ fromC (started images)
+  pub started-from-C : startedFromC images area ≡ fromC (started images)
   started-from-C = ap (λ (left : Stored). record { area = left .area; memory = images }) start-from-C
 
   started-is-sound : Sound (started images)

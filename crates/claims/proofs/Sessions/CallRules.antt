@@ -97,7 +97,7 @@ module _ (session : Session) (before : Memory) (wait : ℕ) (packet area : List 
         main = kept .0 ∙ v .main;
       }))
 
-  -- "count up by one to at most 3"
+  -- 01, Commands: "count up by one to at most 3"
   pub wrong-count-is-at-most-3 : isValidRecord → after .session .standing .wrong ≤ mostWrong
   wrong-count-is-at-most-3 valid =
       valid-by-parts _ (record-by-clauses _ _ _ (valid-stays-valid valid) .standing) .wrong

@@ -38,7 +38,7 @@ use Rattle.rig.specs.Boundary.{startByFuse, startFromC, Called, storedAfter, ca
 
 -- ---- the numbers
 
--- "Start checks 1-8, the settings reader 3-8, the writer 3 then 8, a session call 9 then 10."
+-- 01, Numbers of refused calls: "Start checks 1-8, the settings reader 3-8, the writer 3 then 8, a session call 9 then 10."
 abbrev pub readNumbers : List ℕ
 readNumbers = 0 ∷ 3 ∷ 4 ∷ 5 ∷ 6 ∷ 7 ∷ 8 ∷ []
 

@@ -14,7 +14,7 @@ use Rattle.octets.proofs.Parts.{length-part, each-part}
 use Rattle.octets.proofs.Searching.{pick-true, pick-both}
 use Rattle.script.specs.Form.{scriptLimit, mostEntries, countIn, waitIn, lengthIn, lengthsIn, packetAt, packetIn, keepsForm}
 use Rattle.claims.specs.MadeScript.{Entry, nothing, headsOf, packetsOf, scriptMade, Fit, Holds, entriesFrom, entriesIn}
-use Rattle.claims.proofs.Sessions.HeldSessions.{number-held}
+use Rattle.claims.proofs.Settings.HeldSettings.{number-held}
 
 -- ---- what stands where
 

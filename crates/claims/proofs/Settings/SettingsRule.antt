@@ -1,4 +1,5 @@
--- Demand 2: "The settings image is read and written by one rule: read after write gives the same settings, write after read the same bytes unless the image was blank."
+-- Demand 2: "The settings image is read and written by one rule: read after write gives the same settings, and write after read gives the same
+-- bytes unless the image was blank."
 -- `readOf` and `writeOf` are what `settings::read` and `settings::write` are proved to do.
 use mathlib.Core.Path.{_≡_, refl, sym, ap, _∙_}
 use mathlib.Core.Bool.{Bool, true, false, not}

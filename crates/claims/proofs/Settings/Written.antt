@@ -166,3 +166,8 @@ module _ (s : Settings) (held : Held s) (allowed : isAllowed (s .shown) ≡ true
   pub image-reads : readOf form1 (imageOf form1 s) ≡ accepted s
   unfolding image
   image-reads = reads-back
+
+  -- it is made of bytes
+  pub each-of-image : (k : ℕ) → getD (imageOf form1 s) k 0 < 256
+  unfolding imageOf front
+  each-of-image = each-append front (bytesOf 4 (checksumOf front)) front-each (each-bytesOf 4 (checksumOf front))

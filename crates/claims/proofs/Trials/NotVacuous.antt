@@ -2,27 +2,32 @@
 use mathlib.Core.Path.{_≡_, refl, sym, ap, _∙_}
 use mathlib.Core.Bool.{true, false, true≢false}
 use mathlib.Core.List.{List}
-use Prim.Native.Nat.{ℕ}
+use Prim.Native.Nat.{ℕ, _≤_}
 use native.Mathlib.Omega.{arith}
 use lib.ListN.{getD, replicate}
 use Rattle.octets.specs.Choice.{pick}
+use Rattle.octets.specs.Number.{bytesOf}
+use Rattle.layout.specs.Layout.{tableOf, pairsOf}
+use Rattle.settings.specs.Image.{imageOf}
 use Rattle.wire.specs.Codes.{success, passwordWrong}
 use Rattle.replies.specs.declared.Reply.the-variants.{Message}
 use Rattle.standing.specs.declared.Standing.{Standing}
 use Rattle.standing.specs.Phases.{isUnlocked}
 use Rattle.values.specs.Values.{blankSettings}
 use Rattle.claims.specs.TwoBoards.{Images, started, AlikeBoards, WithoutPassword, replied}
-use Rattle.claims.specs.Trials.{blankBoard, writtenBoard, quietBoard, strictBoard, Differ, allFF, connects, unlocks, threeGuesses, ran, toBlankPassword, AllWithout}
+use Rattle.claims.specs.Visits.{AllWithout, visitOne}
+use Rattle.claims.specs.Trials.{blankBoard, writtenBoard, quietBoard, resetBoard, strictBoard, guardedBoard, Differ, secondFF, allFF, connects, unlocks, twoGuesses, threeGuesses, guesser, ran, toBlankPassword}
 use Rattle.decisions.specs.Judgement.{says}
 use Rattle.decisions.specs.Unlocking.{afterRight, countedUp, afterWrong, asleep, triedWrong, tried}
+use Rattle.act.specs.Board.{sectorSize}
 use Rattle.loader.specs.Answers.{Left}
 use Rattle.alike.specs.Alike.{areSame}
 use Rattle.loader.specs.Calling.{carriedOut}
 use Rattle.alike.proofs.AlikeLaws.{equal-are-same}
 use Rattle.claims.proofs.Secrecy.LockedBoard.{sessionThen, later}
 use Rattle.claims.proofs.Trials.SomePackets.{stood}
-use Rattle.claims.proofs.Trials.SomeBoards.{blank-is-good, quiet-is-good, strict-is-good, blank-and-quiet-are-alike, blank-and-quiet-differ, strict-are-alike, strict-differ}
-use Rattle.claims.proofs.Trials.SomeSessions.{room, connect-is-strange, unlock-is-strange, unlock-is-tried, message-is-sixth, three-guesses-erase}
+use Rattle.claims.proofs.Trials.SomeBoards.{blank-is-good, quiet-is-good, reset-is-good, blank-and-quiet-are-alike, blank-and-quiet-differ, reset-are-alike, reset-differ}
+use Rattle.claims.proofs.Trials.SomeSessions.{room, connect-is-strange, unlock-is-strange, unlock-is-tried, message-is-sixth, two-guesses-keep, three-guesses-erase, three-guesses-keep}
 
 -- ---- there are boards that are alike, and differ in both passwords and both images
 
@@ -34,43 +39,85 @@ blank-and-quiet = (blank-and-quiet-are-alike, blank-and-quiet-differ)
 
 -- ---- the alert strikes in a session without a password: all is erased that was there
 
-abbrev one : Images
-one = strictBoard 0x11 0x66
+-- a session of Connect and three guesses; passwords that do not begin with 0x33 are not in it
+module _ (guard : ℕ) (bit : guard ≤ 1) where
+  abbrev one : Images
+  one = resetBoard guard 0x11 0x66
 
-abbrev other : Images
-other = strictBoard 0x22 0x77
+  abbrev other : Images
+  other = resetBoard guard 0x22 0x77
 
-pub two-strict : AlikeBoards one other × Differ one other
-two-strict = (strict-are-alike, strict-differ)
+  connect-without : WithoutPassword one other connects
+  connect-without = record {
+    notOne = connect-is-strange one _ (reset-is-good guard 0x11 0x66 bit (omega arith));
+    notOther = connect-is-strange other _ (reset-is-good guard 0x22 0x77 bit (omega arith));
+    oneRoom = room 0;
+    otherRoom = room 0xFF;
+  }
 
-connect-without : WithoutPassword one other connects
-connect-without = record {
-  notOne = connect-is-strange one _ (strict-is-good 0x11 0x66 (omega arith));
-  notOther = connect-is-strange other _ (strict-is-good 0x22 0x77 (omega arith));
-  oneRoom = room 0;
-  otherRoom = room 0xFF;
-}
+  guess-without : WithoutPassword one other (unlocks 0x33)
+  guess-without = record {
+    notOne = unlock-is-strange one _ (reset-is-good guard 0x11 0x66 bit (omega arith)) 0x33 (λ e. omega arith);
+    notOther = unlock-is-strange other _ (reset-is-good guard 0x22 0x77 bit (omega arith)) 0x33 (λ e. omega arith);
+    oneRoom = room 0;
+    otherRoom = room 0xFF;
+  }
 
-guess-without : WithoutPassword one other (unlocks 0x33)
-guess-without = record {
-  notOne = unlock-is-strange one _ (strict-is-good 0x11 0x66 (omega arith)) 0x33 (λ e. omega arith);
-  notOther = unlock-is-strange other _ (strict-is-good 0x22 0x77 (omega arith)) 0x33 (λ e. omega arith);
-  oneRoom = room 0;
-  otherRoom = room 0xFF;
-}
+  -- no packet of the session carries a password
+  pub guesses-are-without : AllWithout one other threeGuesses
+  guesses-are-without = (connect-without, (guess-without, (guess-without, (guess-without, tt))))
 
--- no packet of the session carries a password, and after it every byte is 0xFF
-pub guesses-are-without : AllWithout one other threeGuesses
-guesses-are-without = (connect-without, (guess-without, (guess-without, (guess-without, tt))))
+  -- and so for a person who guesses: four calls are that session, and what they sent has no password
+  pub guesser-is-without : AllWithout one other (visitOne guesser one 4 .sent) × (visitOne guesser one 4 .board ≡ ran (started one) threeGuesses)
+  guesser-is-without = ((guess-without, (guess-without, (guess-without, (connect-without, tt)))), refl)
 
-pub guesses-erase : (ran (started one) threeGuesses .memory ≡ allFF one) × (ran (started other) threeGuesses .memory ≡ allFF other)
+abbrev oneStrict : Images
+oneStrict = strictBoard 0x11 0x66
+
+abbrev otherStrict : Images
+otherStrict = strictBoard 0x22 0x77
+
+pub two-strict : AlikeBoards oneStrict otherStrict × Differ oneStrict otherStrict
+two-strict = (reset-are-alike 0 (omega arith), reset-differ 0 (omega arith))
+
+-- after two guesses all is as at the start, and after three every byte is 0xFF
+pub two-guesses-erase-nothing : (ran (started oneStrict) twoGuesses .memory ≡ oneStrict) × (ran (started otherStrict) twoGuesses .memory ≡ otherStrict)
+two-guesses-erase-nothing =
+    (two-guesses-keep 0 0x11 0x66 (omega arith) (omega arith) (λ e. omega arith), two-guesses-keep 0 0x22 0x77 (omega arith) (omega arith) (λ e. omega arith))
+
+pub guesses-erase : (ran (started oneStrict) threeGuesses .memory ≡ allFF oneStrict) × (ran (started otherStrict) threeGuesses .memory ≡ allFF otherStrict)
 guesses-erase = (three-guesses-erase 0x11 0x66 (omega arith) (λ e. omega arith), three-guesses-erase 0x22 0x77 (omega arith) (λ e. omega arith))
 
 -- which they were not before
-pub there-was-something : (one ≡ allFF one → ⊥) × (other ≡ allFF other → ⊥)
+pub there-was-something : (oneStrict ≡ allFF oneStrict → ⊥) × (otherStrict ≡ allFF otherStrict → ⊥)
 unfolding writtenBoard
 there-was-something =
     (λ e. omega (arith, ap (λ (images : Images). getD (images .main) 0 0) e), λ e. omega (arith, ap (λ (images : Images). getD (images .main) 0 0) e))
+
+-- ---- and where the first sector and the settings are protected, they are kept
+
+abbrev oneGuarded : Images
+oneGuarded = guardedBoard 0x11 0x66
+
+abbrev otherGuarded : Images
+otherGuarded = guardedBoard 0x22 0x77
+
+pub two-guarded : AlikeBoards oneGuarded otherGuarded × Differ oneGuarded otherGuarded
+two-guarded = (reset-are-alike 1 (omega arith), reset-differ 1 (omega arith))
+
+-- after the same session the second sector is 0xFF, and all else is as at the start
+pub guesses-keep-protected : (ran (started oneGuarded) threeGuesses .memory ≡ secondFF oneGuarded)
+    × (ran (started otherGuarded) threeGuesses .memory ≡ secondFF otherGuarded)
+guesses-keep-protected =
+    (three-guesses-keep 0x11 0x66 (omega arith) (λ e. omega arith), three-guesses-keep 0x22 0x77 (omega arith) (λ e. omega arith))
+
+-- which was not 0xFF: the first bytes of the first sector, of the second, and of the settings
+pub each-held-something : (password byte : ℕ)
+    → (getD (guardedBoard password byte .main) 0 0 ≡ 0x55)
+    × (getD (guardedBoard password byte .main) sectorSize 0 ≡ byte)
+    × (getD (guardedBoard password byte .settings) 0 0 ≡ 1)
+unfolding writtenBoard imageOf pairsOf tableOf bytesOf
+each-held-something password byte = (refl, refl, refl)
 
 -- ---- with the password of one of them, boards that are alike can be told apart
 

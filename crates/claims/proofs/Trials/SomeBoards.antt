@@ -1,14 +1,14 @@
 -- The boards on which demand 3 is tried start, are alike and differ. No image is computed: the reader takes back what the writer wrote.
 use mathlib.Core.Path.{_≡_, refl, sym, ap, _∙_}
-use mathlib.Core.Bool.{false}
+use mathlib.Core.Bool.{true, false}
 use mathlib.Core.List.{List}
 use Prim.Native.Nat.{ℕ, _^_, _≤_, _<_}
 use native.Mathlib.Omega.{arith}
 use borrow.Author.Tests.{le-leb}
-use lib.ListN.{length, getD, length-replicate}
+use lib.ListN.{length, getD, replicate, length-replicate}
 use Rattle.octets.specs.Choice.{pick}
 use Rattle.octets.specs.Number.{numberOf}
-use Rattle.octets.proofs.Parts.{each-replicate}
+use Rattle.octets.proofs.Parts.{each-cons, each-replicate}
 use Rattle.values.specs.declared.Settings.{Settings}
 use Rattle.values.specs.Values.{isAllowed, blankSettings}
 use Rattle.layout.specs.Layout.{form1}
@@ -20,7 +20,7 @@ use Rattle.regions.specs.Regions.{isMainSize}
 use Rattle.sessions.specs.Starting.{startRead, startOf}
 use Rattle.claims.specs.Held.{Held}
 use Rattle.claims.specs.TwoBoards.{Images, settingsOf, AlikeBoards}
-use Rattle.claims.specs.Trials.{mainSize, blankBoard, chosen, writtenBoard, quietBoard, strictBoard, Differ}
+use Rattle.claims.specs.Trials.{mainSize, blankBoard, chosen, writtenBoard, quietBoard, resetBoard, Differ}
 use Rattle.claims.proofs.Settings.Written.{image-reads}
 use Rattle.claims.proofs.Settings.SettingsRule.{blank-reads}
 
@@ -41,28 +41,29 @@ unfolding blankBoard
 blank-is-good = record { size = length-replicate {A = ℕ} mainSize 0xFF; read = blank-reads }
 
 -- a written board: the reader takes back what was written
-module _ (alert pointer byte main : ℕ) (known : alert ≤ 2) (held : pointer < 256 ^ 4) (small : byte < 256) where
-  chosen-is-held : Held (chosen alert pointer byte)
+module _ (alert guard pointer byte main : ℕ) (known : alert ≤ 2) (bit : guard ≤ 1) (held : pointer < 256 ^ 4) (small : byte < 256) where
+  pub chosen-is-held : Held (chosen alert guard pointer byte)
   chosen-is-held = record {
     shown = record { readout = omega arith; bcr = omega arith; bsl = omega arith; pointer = held };
-    protection = record { size = refl; each = each-replicate 8 0 (omega arith) };
+    protection = record { size = refl; each = each-cons guard (replicate 7 0) (omega arith) (each-replicate 7 0 (omega arith)) };
     password = record { size = refl; each = each-replicate 32 byte small };
     reset = record { size = refl; each = each-replicate 16 byte small };
   }
 
-  written-is-good : Good (writtenBoard (chosen alert pointer byte) main) (chosen alert pointer byte)
-  unfolding writtenBoard isAllowed pick
-  written-is-good = record {
-    size = omega (arith, length-replicate 1020 main);
-    read = image-reads (chosen alert pointer byte) chosen-is-held (rw (le-leb alert 2 known));
-  }
+  pub chosen-is-allowed : isAllowed (chosen alert guard pointer byte .shown) ≡ true
+  unfolding isAllowed pick
+  chosen-is-allowed = rw (le-leb alert 2 known, le-leb guard 1 bit)
 
-module _ (byte main : ℕ) (small : byte < 256) where
-  pub quiet-is-good : Good (quietBoard byte main) (chosen 0 0xFFFFFFFF byte)
-  quiet-is-good = written-is-good 0 0xFFFFFFFF byte main (omega arith) (omega arith) small
+  written-is-good : Good (writtenBoard (chosen alert guard pointer byte) main) (chosen alert guard pointer byte)
+  unfolding writtenBoard
+  written-is-good =
+      record { size = omega (arith, length-replicate 2044 main); read = image-reads (chosen alert guard pointer byte) chosen-is-held chosen-is-allowed }
 
-  pub strict-is-good : Good (strictBoard byte main) (chosen alertReset 0 byte)
-  strict-is-good = written-is-good alertReset 0 byte main (omega arith) (omega arith) small
+pub quiet-is-good : (byte main : ℕ) → byte < 256 → Good (quietBoard byte main) (chosen 0 0 0xFFFFFFFF byte)
+quiet-is-good byte main small = written-is-good 0 0 0xFFFFFFFF byte main (omega arith) (omega arith) (omega arith) small
+
+pub reset-is-good : (guard byte main : ℕ) → guard ≤ 1 → byte < 256 → Good (resetBoard guard byte main) (chosen alertReset guard 0 byte)
+reset-is-good guard byte main bit small = written-is-good alertReset guard 0 byte main (omega arith) bit (omega arith) small
 
 -- ---- two of them
 
@@ -119,20 +120,21 @@ unfolding blankBoard writtenBoard
 blank-and-quiet-differ =
     differ blankBoard (quietBoard 0 0) blankSettings _ blank-is-good (quiet-is-good 0 0 (omega arith)) 0 (λ e. omega arith) (λ e. omega arith) (λ e. omega arith)
 
--- ---- two strict ones
+-- ---- two whose alert resets
 
 -- where it is, the version is the four bytes there
-strict-version : (byte main : ℕ) → versionAt 0 (strictBoard byte main .main) ≡ 0x55555555
+reset-version : (guard byte main : ℕ) → versionAt 0 (resetBoard guard byte main .main) ≡ 0x55555555
 unfolding versionAt writtenBoard numberOf pick
-strict-version byte main = refl
+reset-version guard byte main = refl
 
-pub strict-are-alike : AlikeBoards (strictBoard 0x11 0x66) (strictBoard 0x22 0x77)
-strict-are-alike =
-    are-alike (strictBoard 0x11 0x66) (strictBoard 0x22 0x77) _ _ (strict-is-good 0x11 0x66 (omega arith)) (strict-is-good 0x22 0x77 (omega arith)) refl refl
-    (strict-version 0x11 0x66 ∙ sym (strict-version 0x22 0x77))
+module _ (guard : ℕ) (bit : guard ≤ 1) where
+  pub reset-are-alike : AlikeBoards (resetBoard guard 0x11 0x66) (resetBoard guard 0x22 0x77)
+  reset-are-alike =
+      are-alike (resetBoard guard 0x11 0x66) (resetBoard guard 0x22 0x77) _ _ (reset-is-good guard 0x11 0x66 bit (omega arith)) (reset-is-good guard 0x22 0x77 bit (omega arith)) refl refl
+      (reset-version guard 0x11 0x66 ∙ sym (reset-version guard 0x22 0x77))
 
-pub strict-differ : Differ (strictBoard 0x11 0x66) (strictBoard 0x22 0x77)
-unfolding writtenBoard
-strict-differ =
-    differ (strictBoard 0x11 0x66) (strictBoard 0x22 0x77) _ _ (strict-is-good 0x11 0x66 (omega arith)) (strict-is-good 0x22 0x77 (omega arith)) 4
-    (λ e. omega arith) (λ e. omega arith) (λ e. omega arith)
+  pub reset-differ : Differ (resetBoard guard 0x11 0x66) (resetBoard guard 0x22 0x77)
+  unfolding writtenBoard
+  reset-differ =
+      differ (resetBoard guard 0x11 0x66) (resetBoard guard 0x22 0x77) _ _ (reset-is-good guard 0x11 0x66 bit (omega arith)) (reset-is-good guard 0x22 0x77 bit (omega arith)) 4
+      (λ e. omega arith) (λ e. omega arith) (λ e. omega arith)

@@ -1,14 +1,15 @@
 -- Sessions of the boards on which demand 3 is tried, call by call.
 use mathlib.Core.Path.{_≡_, refl, sym, ap, ap₂, subst, _∙_}
 use mathlib.Core.Bool.{Bool, true, false}
-use mathlib.Core.List.{List, [], _∷_}
+use mathlib.Core.List.{List, [], _∷_, _++_}
 use Prim.Native.Nat.{ℕ, zero, suc, _/_, _≤_, _<_}
 use native.Mathlib.Nat.{zero-div}
 use native.Mathlib.Omega.{arith}
 use lib.ListN.{length, getD, take, drop, replicate, length-replicate}
-use lib.Seq.{take-append-seam}
+use lib.Seq.{take-all, take-append-seam}
 use Rattle.octets.specs.Choice.{pick}
 use Rattle.octets.specs.Number.{bytesOf}
+use Rattle.octets.proofs.Parts.{parts-join}
 use Rattle.wire.specs.Codes.{replyLimit, unlock, isOneOf}
 use Rattle.wire.specs.Packet.{coreIn}
 use Rattle.packets.proofs.PacketLaws.{unlock-is-password}
@@ -21,8 +22,9 @@ use Rattle.standing.specs.Phases.{mostSleep, atStart}
 use Rattle.values.specs.declared.Settings.{Settings}
 use Rattle.settings.specs.Answers.{ReadTold}
 use Rattle.regions.specs.Memory.{Memory, memory}
-use Rattle.sectors.specs.Protection.{isProtected}
-use Rattle.sectors.proofs.ErasingLaws.{erase-all-of-open}
+use Rattle.sectors.specs.Protection.{isProtected, mayChange}
+use Rattle.sectors.specs.Erasing.{eraseAllOf}
+use Rattle.sectors.proofs.ErasingLaws.{erase-all-keeps-length, erase-all-of-open, erase-all-of-protected, erase-all-in-one-sector}
 use Rattle.decisions.specs.declared.Effect.the-variants.{Say}
 use Rattle.decisions.specs.Judgement.{says}
 use Rattle.decisions.specs.Unlocking.{alertReset, tried}
@@ -33,13 +35,14 @@ use Rattle.sending.proofs.AnsweringLaws.{others-are-told, answer-is-whole}
 use Rattle.sessions.specs.declared.Session.{Session}
 use Rattle.alike.specs.Alike.{areSame}
 use Rattle.loader.specs.Calling.{carriedOut, serveOf}
+use Rattle.loader.proofs.RecordLaws.{record-by-clauses}
 use Rattle.claims.specs.TwoBoards.{Images, Running, settingsOf, started, Carries, Sending, called, next, replied, isStruck}
-use Rattle.claims.specs.Trials.{chosen, strictBoard, allFF, connects, unlocks, threeGuesses, ran}
-use Rattle.claims.proofs.Sessions.CallRules.{valid-is-served}
+use Rattle.claims.specs.Trials.{mainSize, chosen, resetBoard, strictBoard, guardedBoard, secondFF, allFF, connects, unlocks, twoGuesses, threeGuesses, ran}
+use Rattle.claims.proofs.Sessions.CallRules.{valid-is-served, started-is-valid}
 use Rattle.claims.proofs.Secrecy.LockedBoard.{imageThen, alertOf, memoryThen, sessionThen, later, Locked, started-is-later, started-is-locked}
 use Rattle.claims.proofs.Secrecy.LockedCall.{verdict, call-is, stays-locked}
 use Rattle.claims.proofs.Trials.SomePackets.{connect-core, unlock-core, unlock-is-fine, unlock-is-read, stood, connect-connects, tried-awake, first-is-counted, second-is-counted, third-is-counted}
-use Rattle.claims.proofs.Trials.SomeBoards.{Good, starts, strict-is-good}
+use Rattle.claims.proofs.Trials.SomeBoards.{Good, starts, reset-is-good}
 
 -- a running board stands locked
 pub record Stands (images : Images) (board : Running) (standing : Standing) : Type 0 where
@@ -138,36 +141,77 @@ none-protected : (count sector : ℕ) → isProtected (replicate count 0) sector
 unfolding isProtected
 none-protected count sector = rw (no-bit count 0 (sector / 8), zero-div)
 
-all-erased : (count : ℕ) (protection image : List ℕ) → protection ≡ replicate count 0 → imageThen sectorSize true protection image ≡ replicate (length image) 0xFF
+all-erased : (count : ℕ) (image : List ℕ) → imageThen sectorSize true (replicate count 0) image ≡ replicate (length image) 0xFF
 unfolding imageThen pick
-all-erased count protection image none =
-    erase-all-of-open sectorSize protection image (omega arith)
-    (λ place there. ap (λ (protection : List ℕ). isProtected protection (place / sectorSize)) none ∙ none-protected count (place / sectorSize))
+all-erased count image = erase-all-of-open sectorSize (replicate count 0) image (omega arith) (λ place there. none-protected count (place / sectorSize))
 
-module _ (byte main : ℕ) (small : byte < 256) (other : 0x33 ≡ byte → ⊥) where
-  abbrev strict : Images
-  strict = strictBoard byte main
+-- where the first of two sectors is protected, the second is erased
+second-erased : (main : List ℕ) → length main ≡ mainSize
+    → imageThen sectorSize true (1 ∷ replicate 7 0) main ≡ take sectorSize main ++ replicate sectorSize 0xFF
+unfolding imageThen mayChange isProtected pick
+second-erased main size =
+    let erased : List ℕ = eraseAllOf sectorSize (1 ∷ replicate 7 0) main in
+    let long : length erased ≡ mainSize = erase-all-keeps-length sectorSize (1 ∷ replicate 7 0) 0 0 main ∙ size in
+    sym (take-all mainSize erased (omega (arith, long)))
+    ∙ sym (parts-join 0 sectorSize sectorSize erased)
+    ∙ ap₂ (λ (front back : List ℕ). front ++ back)
+    (erase-all-in-one-sector sectorSize (1 ∷ replicate 7 0) main 0 sectorSize (omega arith) (omega (arith, size)))
+    (erase-all-in-one-sector sectorSize (1 ∷ replicate 7 0) main sectorSize sectorSize (omega arith) (omega (arith, size)))
 
-  good : Good strict (chosen alertReset 0 byte)
-  good = strict-is-good byte main small
+-- and where the one sector is protected, all is kept
+all-kept : (image : List ℕ) → length image ≡ sectorSize → imageThen sectorSize true (1 ∷ []) image ≡ image
+unfolding imageThen isProtected pick
+all-kept image size =
+    erase-all-of-protected sectorSize (1 ∷ []) image
+    (λ place there. let first : place / sectorSize ≡ 0 = omega (arith, size) in ap (isProtected (1 ∷ [])) first)
 
-  resets : alertOf strict ≡ alertReset
+module _ (guard byte main : ℕ) (bit : guard ≤ 1) (small : byte < 256) (other : 0x33 ≡ byte → ⊥) where
+  abbrev struckBoard : Images
+  struckBoard = resetBoard guard byte main
+
+  good : Good struckBoard (chosen alertReset guard 0 byte)
+  good = reset-is-good guard byte main bit small
+
+  resets : alertOf struckBoard ≡ alertReset
   resets = ap (λ (told : ReadTold). told .settings .shown .alert) (good .read)
 
-  guessed : Stands strict (ran (started strict) threeGuesses) (stood mostSleep 3)
-  guessed =
-      let first = guess strict _ good _ _ (connected strict _ good) 0x33 other _ (first-is-counted 0x33 (omega arith) (alertOf strict)) in
-      let second = guess strict _ good _ _ first 0x33 other _ (second-is-counted 0x33 (omega arith) (alertOf strict)) in
-      guess strict _ good _ _ second 0x33 other _ (rw resets (third-is-counted 0x33 (omega arith)))
+  guessed-twice : Stands struckBoard (ran (started struckBoard) twoGuesses) (stood mostSleep 2)
+  guessed-twice =
+      let first = guess struckBoard _ good _ _ (connected struckBoard _ good) 0x33 other _ (first-is-counted 0x33 (omega arith) (alertOf struckBoard)) in
+      guess struckBoard _ good _ _ first 0x33 other _ (second-is-counted 0x33 (omega arith) (alertOf struckBoard))
 
-  struck : isStruck (alertOf strict) 3 ≡ true
+  guessed : Stands struckBoard (ran (started struckBoard) threeGuesses) (stood mostSleep 3)
+  guessed = guess struckBoard _ good _ _ guessed-twice 0x33 other _ (rw resets (third-is-counted 0x33 (omega arith)))
+
+  struck-at-three : (isStruck (alertOf struckBoard) 2 ≡ false) × (isStruck (alertOf struckBoard) 3 ≡ true)
   unfolding isStruck pick
-  struck = rw resets
+  struck-at-three = (rw resets, rw resets)
 
-  -- the third one strikes
-  pub three-guesses-erase : ran (started strict) threeGuesses .memory ≡ allFF strict
-  three-guesses-erase =
+  -- two change nothing
+  pub two-guesses-keep : ran (started struckBoard) twoGuesses .memory ≡ struckBoard
+  unfolding imageThen pick
+  two-guesses-keep = ap (λ (board : Running). board .memory) (guessed-twice .so) ∙ ap (memoryThen struckBoard) (struck-at-three .0)
+
+  -- the third one strikes; what the strike leaves follows from the bits
+  strike-leaves : ran (started struckBoard) threeGuesses .memory
+      ≡ memory (imageThen sectorSize true (guard ∷ replicate 7 0) (struckBoard .main)) (imageThen sectorSize true (guard ∷ []) (struckBoard .settings))
+  strike-leaves =
       ap (λ (board : Running). board .memory) (guessed .so)
-      ∙ ap (memoryThen strict) struck
-      ∙ ap₂ memory (all-erased 8 _ _ (ap (λ (told : ReadTold). told .settings .protection) (good .read)))
-      (all-erased 1 _ _ (ap (λ (told : ReadTold). settingsProtection (told .settings .shown)) (good .read)))
+      ∙ ap (memoryThen struckBoard) (struck-at-three .1)
+      ∙ ap (λ (told : ReadTold). memory (imageThen sectorSize true (told .settings .protection) (struckBoard .main))
+      (imageThen sectorSize true (settingsProtection (told .settings .shown)) (struckBoard .settings))) (good .read)
+
+module _ (byte main : ℕ) (small : byte < 256) (other : 0x33 ≡ byte → ⊥) where
+  -- where nothing is protected, all is erased
+  pub three-guesses-erase : ran (started (strictBoard byte main)) threeGuesses .memory ≡ allFF (strictBoard byte main)
+  three-guesses-erase =
+      strike-leaves 0 byte main (omega arith) small other ∙ ap₂ memory (all-erased 8 _) (all-erased 1 _)
+
+  -- where the first sector and the settings are protected, the second sector is erased
+  pub three-guesses-keep : ran (started (guardedBoard byte main)) threeGuesses .memory ≡ secondFF (guardedBoard byte main)
+  three-guesses-keep =
+      strike-leaves 1 byte main (omega arith) small other
+      ∙ ap₂ memory (second-erased (guardedBoard byte main .main) (reset-is-good 1 byte main (omega arith) small .size)) (all-kept _ settings-size)
+    where
+      settings-size : length (guardedBoard byte main .settings) ≡ sectorSize
+      settings-size = record-by-clauses _ _ _ (started-is-valid false _ _ (starts _ _ (reset-is-good 1 byte main (omega arith) small))) .settings
