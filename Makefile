@@ -1,5 +1,5 @@
 # The commands of the README.
-.PHONY: test run show limits vectors lib install compare mutants bench stack
+.PHONY: test run show limits vectors lib install compare mutants bench stack statement
 
 PREFIX ?= /usr/local
 N ?= 200000
@@ -57,3 +57,7 @@ bench:
 # The stack that each function of the library takes at most, and the deepest way down.
 stack:
 	sh stack/run.sh
+
+# The statement for signing, target/statement/STATEMENT.pdf: says which commit, toolchain and library the gate has passed on.
+statement:
+	python3 -B tools/statement.py

@@ -2,8 +2,8 @@
 
     python3 -B stack/judge.py NUMBERS ARCHIVE CODE.s..
 
-Ends with status 1 where a function takes more than NUMBERS says, where none is told of one, and where include/bhorelmu.h or
-docs/RECORD.md does not say the same numbers. Where a function takes less it says so, and that is no fault."""
+Ends with status 1 where a function takes more than NUMBERS says, where none is told of one, and where include/bhorelmu.h,
+docs/RECORD.md or, of a call, docs/STATEMENT.md does not say the same numbers. Where a function takes less it says so, and that is no fault."""
 import pathlib
 import re
 import sys
@@ -14,6 +14,7 @@ from ways import Refused
 PROCESSORS = ["x86-64", "thumbv6m"]
 HEADER = pathlib.Path("include/bhorelmu.h")
 RECORD = pathlib.Path("docs/RECORD.md")
+STATEMENT = pathlib.Path("docs/STATEMENT.md")
 
 
 def told(path):
@@ -45,6 +46,9 @@ def faults_of_documents(numbers):
             yield f"{HEADER} does not tell {wide} and {small} of {name}"
         if f"| `{name}` | {wide} | {small} |" not in record:
             yield f"{RECORD} does not tell {wide} and {small} of {name}"
+    wide, small = numbers["bhorelmu_call"]
+    if f"at most {wide} bytes of it on x86-64 and {small} on thumbv6m" not in STATEMENT.read_text():
+        yield f"{STATEMENT} does not tell {wide} and {small} of a call"
 
 
 def main():
