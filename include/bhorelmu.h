@@ -23,8 +23,9 @@
  *    machine code (thumbv6m: -O2); memset and the like come on top;
  *  - only the bytes of a reply leave the board: a record holds both passwords;
  *  - before the application runs, or anything else that is not to know the passwords, the caller clears the record, the
- *    reply area and the stack below its own: after a call both passwords stand in the record, bytes that were read back
- *    may stand in the reply area, and copies of the record in the dead stack. No function here clears any of them;
+ *    reply area, the packet's area and the stack below its own: after a call both passwords stand in the record, bytes
+ *    that were read back may stand in the reply area, a password that was sent in the packet's, and copies of the record
+ *    in the dead stack. No function here clears any of them;
  *  - one record is one session: who starts again gets a new count of wrong passwords.
  */
 

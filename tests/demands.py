@@ -7,7 +7,8 @@
   last source named before it in its paragraph, table row, list item or comment: "demand 3", "the insurer", "01", "004" or another. Where none is
   named there, it is the one that the heading above names, or the first comment of a file of the crates; the statement quotes the
   demands. In a quotation ".." stands for words that are left out.
-- In docs/DECISIONS.md each decision has a number of its own, and the statement names those that are marked for a signer, and no others.
+- In docs/DECISIONS.md each decision has a number of its own; the statement names all that are marked for a signer, and none that is not
+  there.
 
 White space counts as one space."""
 import pathlib
