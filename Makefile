@@ -1,53 +1,62 @@
-# The commands of the README.
-.PHONY: test run show limits vectors lib install compare mutants bench stack statement
+# The commands of the README; `make` alone lists them. What the prover says goes to target/rt_*.log.
+.PHONY: help test quick run show limits vectors lib install compare mutants bench stack statement index picture
 
 PREFIX ?= /usr/local
 N ?= 200000
 SCRIPT ?= crates/runner/stdin
+SCOPE ?= ../shared/documents/01-scope.md
+
+# Handed on by the environment, where a space or a quote in them does no harm.
+export PREFIX DESTDIR N SCRIPT SCOPE
+
+help:
+	@sed "s/{crates}/$$(grep -c '^[a-z_0-9]*:' crates.txt)/" tools/help.txt
 
 # The gate.
 test:
-	.ci/run
+	@.ci/run --progress
+
+# The gate without the wrong programs, over what is already proved.
+quick:
+	@.ci/run --quick
 
 # A session: proves and builds the runner, and plays a script, or the text of one where its name ends in .txt.
 # Without SCRIPT= it is the example of document 01.
 run:
-	rt check runner
-	tools/run_script.sh $(SCRIPT)
+	@tools/sessions/look_at_script.sh "$$SCRIPT"
+	@tools/progress.py check runner
+	@tools/sessions/run_script.sh "$$SCRIPT"
 
 # The settings reader and writer at work: proves the program and prints what it wrote.
 show:
-	rt check show_settings
-	cat target/log/show_settings.stdout
+	@tools/progress.py check show_settings
+	@cat target/log/show_settings.stdout
 
 # A session at the sides of every limit, and each command accepted and refused.
 limits:
-	rt check show_sessions
-	cat target/log/show_sessions.stdout
+	@tools/progress.py check show_limits
+	@cat target/log/show_limits.stdout
 
 # Every whole packet that the source documents print.
 vectors:
-	rt check vectors
-	cat target/log/vectors.stdout
+	@tools/progress.py check show_vectors
+	@cat target/log/show_vectors.stdout
 
 # The library for C: target/staticlib/libbhorelmu.a, to be linked beside include/bhorelmu.h.
 lib:
-	. rig/toolchain.sh && build_library
+	@. tools/shared/toolchain.sh && build_library && echo "$$library"
 
 # The library, its header and its .pc file below PREFIX.
-install: lib
-	install -d $(DESTDIR)$(PREFIX)/lib/pkgconfig $(DESTDIR)$(PREFIX)/include
-	install -m 644 target/staticlib/libbhorelmu.a $(DESTDIR)$(PREFIX)/lib/libbhorelmu.a
-	install -m 644 include/bhorelmu.h $(DESTDIR)$(PREFIX)/include/bhorelmu.h
-	sed 's|@PREFIX@|$(PREFIX)|' include/bhorelmu.pc.in > $(DESTDIR)$(PREFIX)/lib/pkgconfig/bhorelmu.pc
+install:
+	@tools/install.sh "$$PREFIX" "$$DESTDIR"
 
 # The library beside the model in C, over N calls from the first seed on.
 compare:
-	sh rig/compare/run.sh $(N)
+	@sh verification/compare/run.sh "$$N"
 
 # Whether the comparison finds mistakes: the model with one at a time, beside the model as it is.
 mutants:
-	sh rig/compare/mutants.sh
+	@sh verification/compare/mutants.sh
 
 # Instructions and time of the library beside the model in C, and of the checksum beside others, and the stack: rewrites the tables
 # of docs/BENCH.md.
@@ -60,4 +69,12 @@ stack:
 
 # The statement for signing, target/statement/STATEMENT.pdf: says which commit, toolchain and library the gate has passed on.
 statement:
-	python3 -B tools/statement.py
+	python3 -B tools/statement/statement.py
+
+# Which definitions quote which sentence of document 01.
+index:
+	@tools/make_index.py "$$SCOPE" docs/INDEX.md
+
+# The rooms of crates.txt and what each stands on.
+picture:
+	@tools/rooms_picture.py docs/rooms.svg

@@ -7,7 +7,7 @@ set -eu
 cd "$(dirname "$0")/.."
 work=target/bench/counted
 mkdir -p $work
-. rig/toolchain.sh
+. tools/shared/toolchain.sh
 . bench/building/programs.sh
 find_compiler
 if [ $# -eq 0 ]; then

@@ -1,5 +1,5 @@
-"""What the gate costs, crate by crate and edit by edit, from the lines that a gate run has printed: rewrites those tables of
-docs/BENCH.md.
+"""What the gate costs, crate by crate and for each file of wrong programs, from the lines that a gate run has printed: rewrites
+those tables of docs/BENCH.md.
 
     make test | tee LOG; python3 -B bench/gate_cost.py LOG
 """
@@ -9,6 +9,9 @@ import re
 import sys
 
 import blocks
+
+sys.path.append("tools")
+from wrong_programs import programs_of
 
 PROVED = re.compile(r"^rt: (\w+) proved \((\d+) s\)$")
 REFUSED = re.compile(r"^rt: must-fail (\w+)/(\w+): refused, as it must be \(.*?(\d+) s\)$")
@@ -25,9 +28,9 @@ def read(lines):
     return checks, edits
 
 
-def row(name, check, edits):
+def row(name, check, programs, edits):
     mean = f"{sum(edits) / len(edits):.0f}" if edits else ""
-    return [f"`{name}`" if name != "all" else name, str(check), str(len(edits) or ""), mean, str(check + sum(edits))]
+    return [f"`{name}`" if name != "all" else name, str(check), str(programs or ""), str(len(edits) or ""), mean, str(check + sum(edits))]
 
 
 def main():
@@ -36,11 +39,13 @@ def main():
     checks, edits = read(pathlib.Path(sys.argv[1]).read_text().splitlines())
     if not checks:
         raise SystemExit(f"{sys.argv[1]}: no crate is said to be proved")
-    rows = [row(name, check, list(edits[name].values())) for name, check in checks.items()]
-    rows.append(row("all", sum(checks.values()), [seconds for each in edits.values() for seconds in each.values()]))
-    blocks.replace("gate", blocks.table(["crate", "check, s", "edits", "mean of an edit, s", "together, s"], rows))
+    programs = {name: len(programs_of(name)) for name in checks}
+    rows = [row(name, check, programs[name], list(edits[name].values())) for name, check in checks.items()]
+    all_edits = [seconds for each in edits.values() for seconds in each.values()]
+    rows.append(row("all", sum(checks.values()), sum(programs.values()), all_edits))
+    blocks.replace("gate", blocks.table(["crate", "check, s", "wrong programs", "files", "mean of a file, s", "together, s"], rows))
     each = [[f"`{name}`", ", ".join(f"{edit} {seconds}" for edit, seconds in edits[name].items())] for name in checks if edits[name]]
-    blocks.replace("edits", blocks.table(["crate", "each edit, s"], each))
+    blocks.replace("edits", blocks.table(["crate", "each file of wrong programs, s"], each))
 
 
 if __name__ == "__main__":

@@ -10,6 +10,9 @@ import sys
 import tempfile
 import time
 
+sys.path.append("tools")
+from wrong_programs import files_of, programs_of
+
 
 def listed(text):
     """Each crate's line of crates.txt, and the crates that it names."""
@@ -42,7 +45,8 @@ def main():
         began = time.time()
         status = subprocess.run(["rt", "ci"], cwd=place).returncode
         took = round(time.time() - began)
-    print(f"{len(wanted)} crates, {took // 60} min {took % 60} s")
+    programs, files = (sum(len(of(name)) for name in wanted) for of in (programs_of, files_of))
+    print(f"{len(wanted)} crates, {programs} wrong programs in {files} files, {took // 60} min {took % 60} s")
     return status
 
 

@@ -21,10 +21,9 @@ find_emulator() {
 build_timed() {
     timed=$work/timed
     mkdir -p $timed
-    compile_natively target/staticlib/rig.bc $timed/rig.o
-    compile_natively target/staticlib/rig_offline.bc $timed/rig_offline.o
+    compile_natively target/staticlib/c_boundary.bc $timed/c_boundary.o
     compile_natively "$exported_module" $timed/export.o
-    build_calls "$(uname -m)" $timed $timed/rig.o $timed/rig_offline.o
+    build_calls "$(uname -m)" $timed $timed/c_boundary.o
     build_checksums "$(uname -m)" $timed $timed/export.o "$native_zlib"
 }
 
@@ -48,7 +47,7 @@ machine() {
 }
 
 mkdir -p $counted
-. rig/toolchain.sh
+. tools/shared/toolchain.sh
 . bench/building/export_checksum.sh
 . bench/building/programs.sh
 . bench/building/zlib.sh

@@ -1,12 +1,19 @@
 #ifndef BHORELMU_H
 #define BHORELMU_H
 
+#if !defined(__cplusplus) && (!defined(__STDC_VERSION__) || __STDC_VERSION__ < 199901L)
+#error "bhorelmu.h wants C99 or later, or C++11 or later: compile with -std=c99 or a later one"
+#endif
+
 #include <stddef.h>
 #include <stdint.h>
 
+#define BHORELMU_VERSION "1.0.0"
+#define BHORELMU_VERSION_NUMBER 10000 /* 10,000 for each major version, 100 for each minor, 1 for each patch */
+
 /*
  * The device side of one boot loader session, on numbers and byte areas. docs/RECORD.md tells the same at length, and
- * rig/example.c is a whole session.
+ * examples/session.c is a whole session. C99 or later, or C++11 or later.
  *
  * An area is a pointer and its size in bytes; all numbers in it are least significant byte first. A refused call changes
  * no byte of any area.
@@ -49,6 +56,28 @@ extern "C" {
 #define BHORELMU_RECORD_MAIN_SIZE 12u /* 4 bytes */
 #define BHORELMU_RECORD_FIELDS 16u    /* 74 bytes: the settings as they were at start */
 
+/* Where the fields stand in an area of fields; in a record they follow BHORELMU_RECORD_FIELDS. */
+#define BHORELMU_FIELD_PASSWORD 0u        /* 32 bytes */
+#define BHORELMU_FIELD_RESET_PASSWORD 32u /* 16 bytes */
+#define BHORELMU_FIELD_RESET_MODE 48u
+#define BHORELMU_FIELD_ALERT 49u
+#define BHORELMU_FIELD_READOUT 50u            /* 2 bytes */
+#define BHORELMU_FIELD_SETTINGS_PROTECTED 52u /* 1: the settings flash keeps its bytes; 0: it does not */
+#define BHORELMU_FIELD_ZERO 53u               /* always 0 */
+#define BHORELMU_FIELD_BCR_ID 54u             /* 4 bytes */
+#define BHORELMU_FIELD_BSL_ID 58u             /* 4 bytes */
+#define BHORELMU_FIELD_VERSION_POINTER 62u    /* 4 bytes */
+#define BHORELMU_FIELD_PROTECTION 66u         /* 8 bytes, a bit a sector; bit 0 of the first is sector 0, and 1 keeps it */
+
+/* The values of reset mode: whether Factory reset is obeyed. */
+enum bhorelmu_reset_mode { BHORELMU_RESET_OFF, BHORELMU_RESET_ON, BHORELMU_RESET_WITH_PASSWORD };
+
+/* The values of alert: what the third wrong password and each later one does. */
+enum bhorelmu_alert { BHORELMU_ALERT_NOTHING, BHORELMU_ALERT_RESET, BHORELMU_ALERT_DISABLE };
+
+/* The value of readout at which Read back is obeyed, the least significant byte first; any other value refuses it. */
+#define BHORELMU_READOUT_ON 0xAABBu
+
 enum bhorelmu_phase {
     BHORELMU_DETECT,
     BHORELMU_COMMAND,
@@ -74,7 +103,7 @@ enum bhorelmu_refusal_number {
 
 /*
  * Begins a session; any fuse but 0 is set. Refusals 1 to 8, then 10 for a record area of another size.
- * Stack: 272 bytes on x86-64, 344 on thumbv6m.
+ * Stack: 432 bytes on x86-64, 544 on thumbv6m.
  */
 uint64_t bhorelmu_start(uint32_t fuse, const uint8_t *main_flash, size_t main_size, const uint8_t *settings,
                         size_t settings_size, uint8_t *record, size_t record_size);
@@ -93,7 +122,7 @@ uint64_t bhorelmu_call(uint8_t *record, size_t record_size, uint8_t *main_flash,
  * Takes the 74 bytes of fields out of a settings image (its bytes 52 to 125), or those of the blank settings out of a
  * blank one.
  * Refusals 3 to 8, then 10 for a fields area of another size.
- * Stack: 272 bytes on x86-64, 336 on thumbv6m.
+ * Stack: 432 bytes on x86-64, 544 on thumbv6m.
  */
 uint64_t bhorelmu_settings_read(const uint8_t *image, size_t image_size, uint8_t *fields, size_t fields_size);
 

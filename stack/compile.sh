@@ -1,9 +1,9 @@
-# Compiles the modules of the proved crates for a thumbv6m core. To be sourced in the repository's root, after rig/toolchain.sh.
+# Compiles the modules of the proved crates for a thumbv6m core. To be sourced in the repository's root, after tools/shared/toolchain.sh.
 #
 # The words are those that the toolchain calls clang with for x86-64, but for the core and -O2.
 core="--target=thumbv6m-none-eabi -mcpu=cortex-m0plus -ffunction-sections -fdata-sections -mllvm -trap-unreachable \
 -mllvm -no-trap-after-noreturn --no-default-config -Wno-override-module -Werror"
-code="target/stack/rig.s target/stack/rig_offline.s"
+code=target/stack/c_boundary.s
 
 # target/stack/CRATE.s, and beside it CRATE.su, the frames.
 compile_for_core() { # CRATE
@@ -15,5 +15,5 @@ compile_for_core() { # CRATE
 
 compile_for_stack() {
     mkdir -p target/stack
-    compile_for_core rig && compile_for_core rig_offline
+    compile_for_core c_boundary
 }

@@ -3,7 +3,7 @@
 # docs/BENCH.md, and holds it to stack/numbers.txt. `make stack` runs it.
 set -eu
 cd "$(dirname "$0")/.."
-. rig/toolchain.sh
+. tools/shared/toolchain.sh
 . stack/compile.sh
 echo "stack: building; the library is proved first where it is not there"
 find_compiler

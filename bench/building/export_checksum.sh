@@ -1,5 +1,5 @@
 # Makes target/bench/checksum/target/staticlib/libexport.a, which has checksum::checksum_of for C, and beside it the module that it
-# was made of. To be sourced in the repository's root, after rig/toolchain.sh.
+# was made of. To be sourced in the repository's root, after tools/shared/toolchain.sh.
 #
 # A static library exports only what is marked extern "C", and the checksum is for Rattle alone. So the export is a crate of
 # its own, made here beside copies of the crates it stands on, and `rt staticlib` proves and compiles it as it does the product.

@@ -1,4 +1,4 @@
-# Builds the programs of the bench for one kind of processor. To be sourced in the repository's root, after rig/toolchain.sh.
+# Builds the programs of the bench for one kind of processor. To be sourced in the repository's root, after tools/shared/toolchain.sh.
 #
 # `x86_64-linux-gnu-gcc`, and so on, is how Debian names the tools for a processor, on a machine of its own kind too.
 bench_words="-std=c11 -O2 -Wall -Wextra -Wpedantic -Werror -Iinclude -I. -Ibench/programs/measuring"
@@ -19,7 +19,7 @@ compile_apart() { # MACHINE OUT FOLDER..
 
 # The model: by gcc, and a second time, under other names, by the toolchain's clang.
 compile_models() { # MACHINE FOLDER
-    $1-linux-gnu-gcc $bench_words -c rig/model/model.c -o "$2/model_by_gcc.o" &&
+    $1-linux-gnu-gcc $bench_words -c verification/model/model.c -o "$2/model_by_gcc.o" &&
         $clang --target="$1-unknown-linux-gnu" --no-default-config -std=c11 -O3 -nostdinc $(headers_of "$1-linux-gnu-gcc") \
             -Iinclude -I. -c bench/programs/rivals/model_by_clang.c -o "$2/model_by_clang.o"
 }

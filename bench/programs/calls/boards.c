@@ -1,7 +1,7 @@
 /* Boards and packets of the cases. */
 #include "bits.h"
 #include "cases.h"
-#include "rig/model/model.h"
+#include "verification/model/model.h"
 
 #include <string.h>
 

@@ -1,6 +1,6 @@
 #include "sides.h"
 
-#include "rig/model/functions.h"
+#include "verification/model/functions.h"
 
 #include <string.h>
 

@@ -6,8 +6,8 @@
 #define model_rate clang_rate
 #define model_functions names_by_clang
 
-#include "rig/model/model.c"
+#include "verification/model/model.c"
 
-#include "rig/model/functions.h"
+#include "verification/model/functions.h"
 
 const struct loader_functions *const clang_functions = &names_by_clang;

@@ -3,10 +3,10 @@ use Prim.Native.Nat.{ℕ, _^_, _<_}
 use mathlib.Core.Path.{_≡_}
 use mathlib.Core.List.{List}
 use lib.ListN.{length, getD}
-use Rattle.values.specs.declared.Shown.{Shown}
-use Rattle.values.specs.declared.Settings.{Settings}
-use Rattle.sessions.specs.declared.Session.{Session}
-use Rattle.rig.specs.Records.{sleepOf}
+use Rattle.settings.specs.declared.Shown.{Shown}
+use Rattle.settings.specs.declared.Settings.{Settings}
+use Rattle.session.specs.declared.Session.{Session}
+use Rattle.c_boundary.specs.Records.{sleepOf}
 
 -- bytes: so many numbers below 256
 pub record Bytes (count : ℕ) (bytes : List ℕ) : Type 0 where

@@ -5,7 +5,7 @@ use mathlib.Core.Path.{_≡_}
 use mathlib.Core.Bool.{true}
 use lib.ListN.{length, getD}
 use Rattle.octets.specs.Number.{bytesOf}
-use Rattle.script.specs.Form.{scriptLimit, mostEntries, countIn, waitIn, packetIn, keepsForm}
+use Rattle.runner_text.specs.Form.{scriptLimit, mostEntries, countIn, waitIn, packetIn, keepsForm}
 
 pub record Entry : Type 0 where
   pub wait : ℕ

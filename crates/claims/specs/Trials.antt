@@ -5,14 +5,14 @@ use mathlib.Core.List.{List, [], _∷_, _++_}
 use lib.ListN.{length, take, replicate}
 use Rattle.octets.specs.Number.{bytesOf}
 use Rattle.checksum.specs.Checksum.{checksumOf}
-use Rattle.wire.specs.Codes.{commandHeader, replyLimit, connect, unlock}
-use Rattle.values.specs.declared.Settings.{Settings}
-use Rattle.layout.specs.Layout.{form1, imageSize}
+use Rattle.line.specs.Codes.{commandHeader, replyLimit, connect, unlock}
+use Rattle.settings.specs.declared.Settings.{Settings}
+use Rattle.settings.specs.Layout.{form1, imageSize}
 use Rattle.settings.specs.Image.{imageOf}
-use Rattle.regions.specs.Memory.{memory}
-use Rattle.decisions.specs.Unlocking.{alertReset}
-use Rattle.act.specs.Board.{sectorSize}
-use Rattle.loader.specs.Answers.{Left}
+use Rattle.flash.specs.Memory.{memory}
+use Rattle.session_judge.specs.Unlocking.{alertReset}
+use Rattle.session_act.specs.Board.{sectorSize}
+use Rattle.session.specs.CallAnswers.{Left}
 use Rattle.claims.specs.TwoBoards.{Images, Running, settingsOf, started, Sending, called, next}
 use Rattle.claims.specs.Visits.{Person, Seen}
 

@@ -1,5 +1,5 @@
 -- Demand 3, sentence by sentence in the customer's words: two boards, a person without a password, one session.
--- `startOf` and `callOf` are what `sessions::start` and `loader::call` are proved to do.
+-- `startOf` and `callOf` are what `session::start` and `session::call` are proved to do.
 use Prim.Native.Nat.{ℕ, _≤_, _<_}
 use mathlib.Core.Path.{_≡_}
 use mathlib.Core.Bool.{Bool, false}
@@ -7,22 +7,22 @@ use mathlib.Core.List.{List, [], _∷_}
 use lib.Dec.{eqb}
 use lib.ListN.{length, getD, take}
 use Rattle.octets.specs.Choice.{pick}
-use Rattle.wire.specs.Codes.{acknowledged, unlock, replyLimit}
-use Rattle.wire.specs.Packet.{coreIn}
-use Rattle.wire.specs.Acknowledgement.{acknowledgement}
-use Rattle.standing.specs.Phases.{mostWrong, isUnlocked}
-use Rattle.values.specs.declared.Settings.{Settings}
-use Rattle.layout.specs.Layout.{form1}
+use Rattle.line.specs.Codes.{acknowledged, unlock, replyLimit}
+use Rattle.line.specs.Packet.{coreIn}
+use Rattle.line.specs.Acknowledgement.{acknowledgement}
+use Rattle.session_state.specs.Phases.{mostWrong, isUnlocked}
+use Rattle.settings.specs.declared.Settings.{Settings}
+use Rattle.settings.specs.Layout.{form1}
 use Rattle.settings.specs.Reader.{readOf}
-use Rattle.regions.specs.Memory.{Memory}
-use Rattle.sectors.specs.Protection.{mayChange}
-use Rattle.decisions.specs.Unlocking.{alertReset}
-use Rattle.act.specs.Board.{sectorSize, settingsProtection}
-use Rattle.info.specs.Info.{versionAt}
-use Rattle.sessions.specs.declared.Session.{Session}
-use Rattle.loader.specs.Answers.{Left}
-use Rattle.sessions.specs.Starting.{startOf}
-use Rattle.loader.specs.Calling.{callOf}
+use Rattle.flash.specs.Memory.{Memory}
+use Rattle.flash.specs.Protection.{mayChange}
+use Rattle.session_judge.specs.Unlocking.{alertReset}
+use Rattle.session_act.specs.Board.{sectorSize, settingsProtection}
+use Rattle.session_act.specs.Info.{versionAt}
+use Rattle.session.specs.declared.Session.{Session}
+use Rattle.session.specs.CallAnswers.{Left}
+use Rattle.session.specs.Starting.{startOf}
+use Rattle.session.specs.Calling.{callOf}
 
 -- ---- the boards
 

@@ -4,11 +4,11 @@ use Prim.Native.Nat.{ℕ, _%_, _<_}
 use mathlib.Core.Path.{_≡_}
 use mathlib.Core.List.{List, [], _∷_}
 use lib.ListN.{length, getD, take}
-use Rattle.regions.specs.Memory.{Memory}
-use Rattle.numbers.specs.OneNumber.{refusalUnit, burnUnit}
-use Rattle.numbers.specs.Stored.{Stored}
-use Rattle.rig.specs.Records.{recordSize, fieldsAt}
-use Rattle.rig.specs.Boundary.{startFromC, Called, callFromC}
+use Rattle.flash.specs.Memory.{Memory}
+use Rattle.c_boundary.specs.OneNumber.{refusalUnit, burnUnit}
+use Rattle.c_boundary.specs.Stored.{Stored}
+use Rattle.c_boundary.specs.Records.{recordSize, fieldsAt}
+use Rattle.c_boundary.specs.Boundary.{startFromC, Called, callFromC}
 use Rattle.claims.specs.TwoBoards.{Images, Sending, WithoutPassword, Flash}
 
 -- ---- the boards

@@ -4,10 +4,10 @@ use Prim.Native.Nat.{ℕ, zero, suc}
 use mathlib.Core.Path.{_≡_}
 use mathlib.Core.Bool.{false}
 use mathlib.Core.List.{List, [], _∷_}
-use Rattle.standing.specs.declared.Standing.{Standing}
-use Rattle.standing.specs.Phases.{isUnlocked}
-use Rattle.loader.specs.Answers.{CallTold, Left}
-use Rattle.rig.specs.Boundary.{Called}
+use Rattle.session_state.specs.declared.Standing.{Standing}
+use Rattle.session_state.specs.Phases.{isUnlocked}
+use Rattle.session.specs.CallAnswers.{CallTold, Left}
+use Rattle.c_boundary.specs.Boundary.{Called}
 use Rattle.claims.specs.TwoBoards.{Images, Running, started, Sending, WithoutPassword, called, next, replied, Flash}
 use Rattle.claims.specs.TwoBoardsFromC.{RunningFromC, startedFromC, calledFromC, nextFromC, repliedFromC, standsFromC, lockIn, wrongIn}
 

@@ -15,10 +15,10 @@ use Rattle.octets.specs.Choice.{pick}
 use Rattle.octets.specs.Number.{part}
 use Rattle.octets.proofs.Parts.{length-part}
 use Rattle.octets.proofs.Searching.{pick-true, pick-false}
-use Rattle.sectors.specs.Places.{byPlace}
-use Rattle.sectors.specs.Protection.{isProtected}
-use Rattle.sectors.proofs.PlaceLaws.{in-run, before-run, after-run, by-run}
-use Rattle.sectors.proofs.ProtectionLaws.{open-place, protected-place, one-sector, changed-keeps-length, changed-at, changed-keeps, changed-alike, changed-nothing, changed-twice, changed-part, protected-unchanged, empty-sectors-unchanged}
+use Rattle.flash.specs.Places.{byPlace}
+use Rattle.flash.specs.Protection.{isProtected}
+use Rattle.flash.proofs.PlaceLaws.{in-run, before-run, after-run, by-run}
+use Rattle.flash.proofs.ProtectionLaws.{open-place, protected-place, one-sector, changed-keeps-length, changed-at, changed-keeps, changed-alike, changed-nothing, changed-twice, changed-part, protected-unchanged, empty-sectors-unchanged}
 use Rattle.flash.specs.Programming.{programOf}
 
 -- ---- what a program leaves, byte by byte

@@ -4,8 +4,8 @@ use mathlib.Core.List.{List}
 use lib.Bits.{bitAnd}
 use lib.ListN.{length, getD}
 use Rattle.octets.specs.Choice.{pick}
-use Rattle.sectors.specs.Places.{isBetween}
-use Rattle.sectors.specs.Protection.{changed}
+use Rattle.flash.specs.Places.{isBetween}
+use Rattle.flash.specs.Protection.{changed}
 
 -- "Each byte becomes old AND new", from a place on, as far as the memory reaches
 unfoldable pub programOf : ℕ → List ℕ → ℕ → List ℕ → List ℕ → List ℕ

@@ -1,4 +1,4 @@
--- Laws that hold for any bytes and numbers, for every crate's proofs to cite.
+-- What the proofs share, the lowest first.
 -- Numbers: a number and its bytes give each other back.
 pub mod Numbers
 -- Parts: a part of some bytes.
@@ -7,3 +7,9 @@ pub mod Parts
 pub mod Searching
 -- Table: one computed test over a whole table is the rule at each entry.
 pub mod Table
+-- AlikeLaws: what the comparisons say, byte by byte and of all.
+pub mod AlikeLaws
+-- StoreLaws: bytes stored from a place on, one after the other, and into a part that was lent.
+pub mod StoreLaws
+-- HexLaws: the text of some bytes, stored one byte after the other.
+pub mod HexLaws

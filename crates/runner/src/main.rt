@@ -1,27 +1,27 @@
 // The session runner: reads a script from standard input, plays it to a board in memory, and prints a line for each entry.
 ghost use mathlib.Core.Path.{_≡_};
 ghost use Prim.Native.Nat.{_<_};
-ghost use Rattle.loader.specs.Answers.{callNumbered};
+ghost use Rattle.session.specs.CallAnswers.{callNumbered};
 use libc::STDIN_FILENO;
 use libc::STDOUT_FILENO;
-use loader::CallAnswer;
-use script::Script;
-use sessions::Session;
-use standing::Standing;
+use runner_text::Script;
+use session::CallAnswer;
+use session::Session;
+use session_state::Standing;
 
 // The longest line: a number of three digits, a reply of 1,729 bytes, three characters each, and the line's end.
 const LINE_SIZE: usize = 5191;
 
 fn print_line(number: u8, reply: &[u8]) {
     let mut line = [0u8; LINE_SIZE];
-    let size = lines::write_line(number, reply, &mut line);
+    let size = runner_text::write_line(number, reply, &mut line);
     io::write_all(STDOUT_FILENO, octets::part_of(&line, 0, size));
 }
 
 fn print_end(standing: Standing) {
     let phase = standing.phase;
     let mut line = [0u8; LINE_SIZE];
-    let size = end_line::write_end(phase, &mut line);
+    let size = runner_text::write_end(phase, &mut line);
     io::write_all(STDOUT_FILENO, octets::part_of(&line, 0, size));
 }
 
@@ -46,9 +46,9 @@ fn play_entry(
 ) -> Session
     requires { ⌜ index < 255 ⌝ }
 {
-    let wait = script::wait_of(script, index);
-    let packet = script::packet_of(script, index);
-    let called = loader::call(session, main, image, wait, packet, reply);
+    let wait = runner_text::wait_of(script, index);
+    let packet = runner_text::packet_of(script, index);
+    let called = session::call(session, main, image, wait, packet, reply);
     let answer = called.answer;
     let size = reply_size(answer);
     print_line(index + 1, octets::part_of(reply, 0, size));
@@ -60,7 +60,7 @@ fn play(script: &[u8], count: u8) {
     let mut main = [0xFFu8; 4096];
     let mut image = [0xFFu8; 1024];
     let mut reply = [0u8; 1729];
-    let mut session = sessions::start(false, &main, &image).session;
+    let mut session = session::start(false, &main, &image).session;
     for index in 0..count {
         session = play_entry(script, index, session, &mut main, &mut image, &mut reply);
     }
@@ -68,7 +68,7 @@ fn play(script: &[u8], count: u8) {
 }
 
 fn run(script: &[u8]) {
-    let answer = script::read_script(script);
+    let answer = runner_text::read_script(script);
     let Script::Good { count } = answer else {
         io::write_all(STDOUT_FILENO, b"bad script\n");
         return;
@@ -78,7 +78,7 @@ fn run(script: &[u8]) {
 
 // One byte more is read than a script may have, so that one that is too long is seen.
 fn main() {
-    let mut input = [0u8; script::SCRIPT_LIMIT + 1];
+    let mut input = [0u8; runner_text::SCRIPT_LIMIT + 1];
     let size = io::read_full(STDIN_FILENO, &mut input);
     run(&input[..size]);
 }

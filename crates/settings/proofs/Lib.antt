@@ -1,4 +1,12 @@
--- Laws of the settings image.
+-- What the proofs share, the lowest first.
+-- LayoutLaws: the sums and the table that a layout gives.
+pub mod LayoutLaws
+-- TableLaws: the table stored number by number.
+pub mod TableLaws
+-- BodyLaws: the bodies joined piece by piece, and found where an image has them.
+pub mod BodyLaws
+-- AgainLaws: of the settings that some fields say, the same fields are made again.
+pub mod AgainLaws
 -- WriterLaws: written piece by piece, the pieces make the image.
 pub mod WriterLaws
 -- ReaderLaws: what the reader tells beside its number.

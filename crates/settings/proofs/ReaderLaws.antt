@@ -8,11 +8,11 @@ use lib.Dec.{eqb}
 use lib.ListN.{getD}
 use Rattle.octets.specs.Choice.{pick}
 use Rattle.octets.proofs.Searching.{by-search}
-use Rattle.values.specs.declared.Shown.{Shown}
-use Rattle.values.specs.Values.{isAllowed}
-use Rattle.layout.specs.Layout.{Layout, countOf}
-use Rattle.layout.specs.Entries.{entryDiffers, differingEntry}
-use Rattle.fields.specs.Bodies.{bodyIn, shownIn}
+use Rattle.settings.specs.declared.Shown.{Shown}
+use Rattle.settings.specs.Values.{isAllowed}
+use Rattle.settings.specs.Layout.{Layout, countOf}
+use Rattle.settings.specs.Entries.{entryDiffers, differingEntry}
+use Rattle.settings.specs.Bodies.{bodyIn, shownIn}
 use Rattle.settings.specs.declared.Refusal.{Refusal}
 use Rattle.settings.specs.declared.Refusal.the-variants.{SizeWrong, ChecksumDiffers, FormUnknown, EntryDiffers, FillerDiffers, ValueNotAllowed}
 use Rattle.settings.specs.Answers.{refusalNumbered}

@@ -8,14 +8,14 @@ use lib.Seq.{sets, take-at}
 use borrow.Rule.Slice.PartMut.{putMid, midOf}
 use Rattle.octets.specs.Number.{bytesOf}
 use Rattle.octets.proofs.Numbers.{length-bytesOf}
-use Rattle.stores.proofs.Storing.{sets-join, stored-front, stored-whole, filled-part}
+use Rattle.octets.proofs.StoreLaws.{sets-join, stored-front, stored-whole, filled-part}
 use Rattle.checksum.specs.Checksum.{checksumOf}
-use Rattle.values.specs.declared.Settings.{Settings}
-use Rattle.layout.specs.Layout.{form1, checksumAt, bodiesEnd, tableOf, pairsOf}
-use Rattle.layout.specs.Table.{filler-from-126}
-use Rattle.layout.proofs.TableLaws.{length-table, length-pairs}
-use Rattle.fields.specs.Bodies.{bodiesOf}
-use Rattle.fields.proofs.BodyLaws.{length-bodies}
+use Rattle.settings.specs.declared.Settings.{Settings}
+use Rattle.settings.specs.Layout.{form1, checksumAt, bodiesEnd, tableOf, pairsOf}
+use Rattle.settings.specs.Table.{filler-from-126}
+use Rattle.settings.proofs.TableLaws.{length-table, length-pairs}
+use Rattle.settings.specs.Bodies.{bodiesOf}
+use Rattle.settings.proofs.BodyLaws.{length-bodies}
 use Rattle.settings.specs.Image.{fillerOf, frontOf, sealed}
 
 -- the filler where the bodies end, whatever number that is

@@ -1,7 +1,7 @@
 -- 01, Numbers of refused calls: the number of each answer of the reader and the writer, and what goes with it. A call that is not refused has the number 0.
 use Prim.Native.Nat.{ℕ}
 use mathlib.Core.List.{List}
-use Rattle.values.specs.declared.Settings.{Settings}
+use Rattle.settings.specs.declared.Settings.{Settings}
 use Rattle.settings.specs.declared.Reading.{Reading}
 use Rattle.settings.specs.declared.Refusal.{Refusal}
 use Rattle.settings.specs.declared.Refusal.the-variants.{SizeWrong, ChecksumDiffers, FormUnknown, EntryDiffers, FillerDiffers, ValueNotAllowed}
@@ -9,7 +9,7 @@ use Rattle.settings.specs.declared.ReadAnswer.{ReadAnswer}
 use Rattle.settings.specs.declared.ReadAnswer.the-variants.{Accepted, Refused}
 use Rattle.settings.specs.declared.WriteAnswer.{WriteAnswer}
 use Rattle.settings.specs.declared.WriteAnswer.the-variants as write
-use Rattle.values.specs.Values.{noSettings}
+use Rattle.settings.specs.Values.{noSettings}
 
 -- an answer's number, and the entry that goes with it
 pub record Numbered : Type 0 where

@@ -4,9 +4,9 @@ use mathlib.Core.List.{List, _++_}
 use lib.ListN.{replicate}
 use Rattle.octets.specs.Number.{bytesOf}
 use Rattle.checksum.specs.Checksum.{checksumOf}
-use Rattle.values.specs.declared.Settings.{Settings}
-use Rattle.layout.specs.Layout.{Layout, checksumAt, bodiesEnd, tableOf, pairsOf}
-use Rattle.fields.specs.Bodies.{bodiesOf}
+use Rattle.settings.specs.declared.Settings.{Settings}
+use Rattle.settings.specs.Layout.{Layout, checksumAt, bodiesEnd, tableOf, pairsOf}
+use Rattle.settings.specs.Bodies.{bodiesOf}
 
 -- "Bytes 126 to 1,019 are 0xFF."
 abbrev pub fillerOf : Layout → List ℕ

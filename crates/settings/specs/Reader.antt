@@ -6,12 +6,12 @@ use lib.Dec.{eqb}
 use lib.ListN.{length, getD, take}
 use Rattle.octets.specs.Choice.{pick}
 use Rattle.octets.specs.Number.{part, numberAt}
-use Rattle.alike.specs.Alike.{allAre}
+use Rattle.octets.specs.Alike.{allAre}
 use Rattle.checksum.specs.Checksum.{checksumOf}
-use Rattle.layout.specs.Layout.{Layout, imageSize, checksumAt, countOf, bodiesEnd}
-use Rattle.layout.specs.Entries.{differingEntry}
-use Rattle.fields.specs.Bodies.{bodyIn, shownIn, settingsIn}
-use Rattle.values.specs.Values.{isAllowed, blankSettings}
+use Rattle.settings.specs.Layout.{Layout, imageSize, checksumAt, countOf, bodiesEnd}
+use Rattle.settings.specs.Entries.{differingEntry}
+use Rattle.settings.specs.Bodies.{bodyIn, shownIn, settingsIn}
+use Rattle.settings.specs.Values.{isAllowed, blankSettings}
 use Rattle.settings.specs.Answers.{ReadTold, accepted, refused, refusedAt}
 
 -- "An image of 1,024 bytes 0xFF is blank"

@@ -4,20 +4,29 @@ ghost use mathlib.Core.Bool.{not, false};
 ghost use lib.Dec.{eqb};
 ghost use lib.ListN.{length};
 ghost use Rattle.octets.specs.Choice.{pick};
-ghost use Rattle.layout.specs.Layout.{form1};
-ghost use Rattle.values.specs.Values.{isAllowed};
-ghost use Rattle.fields.specs.Bodies.{settingsIn};
+ghost use Rattle.settings.specs.Layout.{form1};
+ghost use Rattle.settings.specs.Values.{isAllowed};
+ghost use Rattle.settings.specs.Bodies.{settingsIn};
 ghost use Rattle.settings.specs.Answers.{readTold, refusalNumbered, refusedAt, accepted};
 ghost use Rattle.settings.specs.Reader.{checksumDiffers, formUnknown, fillerDiffers, valueNotAllowed, readWritten, readOf};
+use crate::BODIES_AT;
 use crate::BODIES_END;
 use crate::CHECKSUM_AT;
+use crate::ENTRIES;
+use crate::FIELDS_SIZE;
 use crate::FILLER_SIZE;
+use crate::FORM;
 use crate::IMAGE_SIZE;
 use crate::ReadAnswer;
 use crate::Reading;
 use crate::Refusal;
-use values::Settings;
-use values::Shown;
+use crate::Settings;
+use crate::Shown;
+use crate::ZERO_AT;
+use crate::allowed;
+use crate::fields_reader;
+use crate::presets;
+use crate::table;
 
 fn checksum_differs(image: &[u8]) -> bool
     requires { ⌜ length (now image) ≡ 1024 ⌝ }
@@ -29,23 +38,23 @@ fn checksum_differs(image: &[u8]) -> bool
 fn form_unknown(image: &[u8]) -> bool
     ensures { λ r. ⌜ r ≡ formUnknown form1 (now (image .entry)) ⌝ }
 {
-    if octets::number16_at(image, 0) != layout::FORM {
+    if octets::number16_at(image, 0) != FORM {
         return true;
     }
-    octets::number16_at(image, 2) != layout::ENTRIES as u16
+    octets::number16_at(image, 2) != ENTRIES as u16
 }
 
 fn filler_differs(image: &[u8]) -> bool
     ensures { λ r. ⌜ r ≡ fillerDiffers form1 (now (image .entry)) ⌝ }
 {
-    !alike::all_are(0xFF, octets::part_of(image, BODIES_END, FILLER_SIZE))
+    !octets::all_are(0xFF, octets::part_of(image, BODIES_END, FILLER_SIZE))
 }
 
 // A value that is not allowed, or a last byte of body 3 that is not 0.
 fn value_not_allowed(shown: Shown, zero: u8) -> bool
     ensures { λ r. ⌜ r ≡ not (pick (isAllowed shown) (eqb zero 0) false) ⌝ }
 {
-    if !values::are_allowed(shown) {
+    if !allowed::are_allowed(shown) {
         return true;
     }
     zero != 0
@@ -54,7 +63,7 @@ fn value_not_allowed(shown: Shown, zero: u8) -> bool
 fn refused(refusal: Refusal) -> Reading
     ensures { λ r. ⌜ readTold r ≡ refusedAt (refusalNumbered refusal .number) (refusalNumbered refusal .entry) ⌝ }
 {
-    let settings = values::none();
+    let settings = presets::none();
     Reading {
         answer: ReadAnswer::Refused(refusal),
         settings,
@@ -75,9 +84,9 @@ fn read_bodies(image: &[u8]) -> Reading
     requires { ⌜ length (now image) ≡ 1024 ⌝ }
     ensures { λ r. ⌜ readTold r ≡ pick (valueNotAllowed form1 (now (image .entry))) (refusedAt 8 0) (accepted (settingsIn form1 (now (image .entry)))) ⌝ }
 {
-    let bodies = octets::part_of(image, layout::BODIES_AT, fields::FIELDS_SIZE);
-    let settings = fields::read_fields(bodies);
-    if value_not_allowed(settings.shown, octets::byte_at(bodies, fields::ZERO_AT)) {
+    let bodies = octets::part_of(image, BODIES_AT, FIELDS_SIZE);
+    let settings = fields_reader::read_fields(bodies);
+    if value_not_allowed(settings.shown, octets::byte_at(bodies, ZERO_AT)) {
         return refused(Refusal::ValueNotAllowed);
     }
     accepting(settings)
@@ -94,7 +103,7 @@ fn read_written(image: &[u8]) -> Reading
     if form_unknown(image) {
         return refused(Refusal::FormUnknown);
     }
-    let entry = layout::differing_entry(image);
+    let entry = table::differing_entry(image);
     if entry != 0 {
         return refused(Refusal::EntryDiffers(entry as u8));
     }
@@ -111,8 +120,8 @@ pub fn read(image: &[u8]) -> Reading
     if image.len() != IMAGE_SIZE {
         return refused(Refusal::SizeWrong);
     }
-    if alike::all_are(0xFF, image) {
-        return accepting(values::blank());
+    if octets::all_are(0xFF, image) {
+        return accepting(presets::blank());
     }
     read_written(image)
 }

@@ -4,21 +4,25 @@ ghost use lib.ListN.{length, take};
 ghost use lib.Seq.{sets};
 ghost use Rattle.octets.specs.Number.{bytesOf};
 ghost use Rattle.checksum.specs.Checksum.{checksumOf};
-ghost use Rattle.layout.specs.Layout.{form1, checksumAt, bodiesEnd};
+ghost use Rattle.settings.specs.Layout.{form1, checksumAt, bodiesEnd};
 ghost use Rattle.settings.specs.Image.{fillerOf, frontOf};
 ghost use Rattle.settings.specs.Answers.{writeNumber, writeLeft};
 ghost use Rattle.settings.specs.Writer.{writeOf};
+use crate::BODIES_AT;
 use crate::BODIES_END;
 use crate::CHECKSUM_AT;
 use crate::IMAGE_SIZE;
+use crate::Settings;
 use crate::WriteAnswer;
-use values::Settings;
+use crate::allowed;
+use crate::fields_writer;
+use crate::table;
 
 fn put_filler(image: &mut [u8])
     requires { ⌜ length (now image) ≡ 1024 ⌝ }
     ensures { λ _. ⌜ now (image .exit) ≡ sets (now (image .entry)) (bodiesEnd form1) (fillerOf form1) ⌝ }
 {
-    stores::fill(&mut image[BODIES_END..CHECKSUM_AT], 0xFF);
+    octets::fill(&mut image[BODIES_END..CHECKSUM_AT], 0xFF);
 }
 
 // All that the checksum is of.
@@ -26,8 +30,8 @@ fn put_front(image: &mut [u8], settings: Settings)
     requires { ⌜ length (now image) ≡ 1024 ⌝ }
     ensures { λ _. ⌜ now (image .exit) ≡ sets (now (image .entry)) 0 (frontOf form1 settings) ⌝ }
 {
-    layout::put_table(image);
-    fields::put_fields(image, layout::BODIES_AT, settings);
+    table::put_table(image);
+    fields_writer::put_fields(image, BODIES_AT, settings);
     put_filler(image);
 }
 
@@ -36,7 +40,7 @@ fn put_checksum(image: &mut [u8])
     ensures { λ _. ⌜ now (image .exit) ≡ sets (now (image .entry)) checksumAt (bytesOf 4 (checksumOf (take checksumAt (now (image .entry))))) ⌝ }
 {
     let sum = checksum::checksum_of(&image[..CHECKSUM_AT]);
-    stores::put_number(image, CHECKSUM_AT, 4, sum);
+    octets::put_number(image, CHECKSUM_AT, 4, sum);
 }
 
 // Writes the image of some settings into a lent area, or refuses and leaves every byte.
@@ -46,7 +50,7 @@ pub fn write(settings: Settings, image: &mut [u8]) -> WriteAnswer
     if image.len() != IMAGE_SIZE {
         return WriteAnswer::SizeWrong;
     }
-    if !values::are_allowed(settings.shown) {
+    if !allowed::are_allowed(settings.shown) {
         return WriteAnswer::ValueNotAllowed;
     }
     put_front(image, settings);

@@ -1,8 +1,8 @@
 // What settings and images hold, in the order of document 01.
 use crate::text;
 use settings::CHECKSUM_AT;
-use values::Settings;
-use values::Shown;
+use settings::Settings;
+use settings::Shown;
 
 fn show_bytes(names: &[u8], row: u8, bytes: &[u8]) {
     text::say_name(names, row);
@@ -51,7 +51,7 @@ fn show_part(names: &[u8], row: u8, image: &[u8], at: usize, count: usize) {
 fn show_filler(names: &[u8], row: u8, image: &[u8]) {
     let filler = octets::part_of(image, 126, CHECKSUM_AT - 126);
     text::say_name(names, row);
-    if alike::all_are(0xFF, filler) {
+    if octets::all_are(0xFF, filler) {
         text::say_number(filler.len() as u64);
     }
 }

@@ -4,7 +4,7 @@ mod contents;
 mod refusals;
 mod text;
 
-use values::Settings;
+use settings::Settings;
 
 fn show_blank() -> Settings {
     let reading = settings::read(&[0xFF; 1024]);

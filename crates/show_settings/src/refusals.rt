@@ -3,7 +3,7 @@ ghost use Prim.Native.Nat.{_<_};
 use crate::answers;
 use crate::text;
 use settings::CHECKSUM_AT;
-use values::Settings;
+use settings::Settings;
 
 // What every byte of an area is before the writer gets it.
 const LENT: u8 = 0x5A;
@@ -20,10 +20,10 @@ fn show_change(names: &[u8], row: u8, image: &[u8], at: usize, byte: u8)
     requires { ⌜ at < 1024 ⌝ }
 {
     let mut changed = [0u8; 1024];
-    stores::put(&mut changed, 0, image);
+    octets::put(&mut changed, 0, image);
     changed[at] = byte;
     let sum = checksum::checksum_of(octets::part_of(&changed, 0, CHECKSUM_AT));
-    stores::put_number(&mut changed, CHECKSUM_AT, 4, sum);
+    octets::put_number(&mut changed, CHECKSUM_AT, 4, sum);
     changed[at] = byte;
     show_reading(names, row, &changed);
 }
@@ -70,7 +70,7 @@ fn show_writing(names: &[u8], row: u8, settings: Settings, area: &mut [u8]) {
     let answer = settings::write(settings, area);
     text::say_name(names, row);
     answers::say_writing(answer);
-    if alike::all_are(LENT, area) {
+    if octets::all_are(LENT, area) {
         text::say(b", area unchanged");
     }
 }

@@ -20,6 +20,6 @@ pub(crate) fn say_number(number: u64) {
 
 pub(crate) fn say_bytes(bytes: &[u8]) {
     let mut text = [0u8; 3 * MOST_SHOWN];
-    hex::put_hex(&mut text, 0, bytes);
+    octets::put_hex(&mut text, 0, bytes);
     say(octets::part_of(&text, 0, 3 * octets::least(bytes.len(), MOST_SHOWN)));
 }

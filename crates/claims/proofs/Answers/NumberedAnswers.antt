@@ -11,15 +11,15 @@ use Rattle.settings.specs.declared.WriteAnswer.{WriteAnswer}
 use Rattle.settings.specs.declared.WriteAnswer.the-variants as write
 use Rattle.settings.specs.Answers.{Numbered, refusalNumbered, readNumbered, writeNumber}
 use Rattle.settings.proofs.ReaderLaws.{refuses}
-use Rattle.sessions.specs.declared.StartAnswer.{StartAnswer}
-use Rattle.sessions.specs.declared.StartAnswer.the-variants as start
-use Rattle.loader.specs.declared.CallAnswer.{CallAnswer}
-use Rattle.loader.specs.declared.CallAnswer.the-variants as call
-use Rattle.sessions.specs.Answers.{startNumbered}
-use Rattle.loader.specs.Answers.{CallTold, callNumbered}
-use Rattle.script.specs.declared.Script.{Script}
-use Rattle.script.specs.declared.Script.the-variants.{Good, Bad}
-use Rattle.script.specs.Form.{Told, scriptTold}
+use Rattle.session.specs.declared.StartAnswer.{StartAnswer}
+use Rattle.session.specs.declared.StartAnswer.the-variants as start
+use Rattle.session.specs.declared.CallAnswer.{CallAnswer}
+use Rattle.session.specs.declared.CallAnswer.the-variants as call
+use Rattle.session.specs.StartAnswers.{startNumbered}
+use Rattle.session.specs.CallAnswers.{CallTold, callNumbered}
+use Rattle.runner_text.specs.declared.Script.{Script}
+use Rattle.runner_text.specs.declared.Script.the-variants.{Good, Bad}
+use Rattle.runner_text.specs.Form.{Told, scriptTold}
 
 -- ---- the settings reader
 

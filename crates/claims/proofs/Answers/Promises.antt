@@ -7,64 +7,60 @@ use Prim.Native.Nat.{ℕ, _-_, min}
 use lib.ListN.{length, getD, replicate}
 use lib.Seq.{sets}
 use Rattle.octets.specs.Number.{part, numberAt, bytesOf}
-use Rattle.alike.specs.Alike.{allAre, areSame}
-use Rattle.hex.specs.Hex.{hexOf}
+use Rattle.octets.specs.Alike.{allAre, areSame}
+use Rattle.octets.specs.Hex.{hexOf}
 use Rattle.checksum.specs.Checksum.{checksumFrom, checksumOf}
-use Rattle.wire.specs.Acknowledgement.{acknowledgement}
-use Rattle.wire.specs.Commands.{commandOf}
-use Rattle.replies.specs.declared.Reply.{Reply}
-use Rattle.replies.specs.Replies.{replyBytes, Sent, sent, sentOf}
-use Rattle.standing.specs.declared.Phase.{Phase}
-use Rattle.standing.specs.declared.Standing.{Standing}
-use Rattle.standing.specs.Phases.{isValid}
-use Rattle.standing.specs.Rates.{rateOf}
-use Rattle.waits.specs.Waits.{passTime}
-use Rattle.values.specs.declared.Shown.{Shown}
-use Rattle.values.specs.declared.Settings.{Settings}
-use Rattle.values.specs.Values.{isAllowed, blankSettings, noSettings}
-use Rattle.layout.specs.Layout.{form1, tableOf, pairsOf}
-use Rattle.layout.specs.Entries.{differingEntry}
-use Rattle.fields.specs.Bodies.{bodiesOf}
-use Rattle.fields.specs.Fields.{fieldsRead}
+use Rattle.line.specs.Acknowledgement.{acknowledgement}
+use Rattle.line.specs.Commands.{commandOf}
+use Rattle.line.specs.declared.Reply.{Reply}
+use Rattle.line.specs.Replies.{replyBytes, Sent, sent, sentOf}
+use Rattle.session_state.specs.declared.Phase.{Phase}
+use Rattle.session_state.specs.declared.Standing.{Standing}
+use Rattle.session_state.specs.Phases.{isValid}
+use Rattle.session_state.specs.Rates.{rateOf}
+use Rattle.session_state.specs.Waits.{passTime}
+use Rattle.settings.specs.declared.Shown.{Shown}
+use Rattle.settings.specs.declared.Settings.{Settings}
+use Rattle.settings.specs.Values.{isAllowed, blankSettings, noSettings}
+use Rattle.settings.specs.Layout.{form1}
+use Rattle.settings.specs.Bodies.{bodiesOf}
+use Rattle.settings.specs.Fields.{fieldsRead}
 use Rattle.settings.specs.declared.WriteAnswer.{WriteAnswer}
 use Rattle.settings.specs.declared.Refusal.{Refusal}
 use Rattle.settings.specs.Answers.{numbered, refusalNumbered, readTold, writeLeft, writeNumber}
 use Rattle.settings.specs.Reader.{readOf}
 use Rattle.settings.specs.Writer.{writeOf}
-use Rattle.regions.specs.declared.Part.{Part}
-use Rattle.regions.specs.declared.Region.{Region}
-use Rattle.regions.specs.Regions.{isMainSize, mspm0Part, placeOf}
-use Rattle.regions.specs.Memory.{memory, bytesIn}
-use Rattle.sectors.specs.Protection.{isProtected}
-use Rattle.sectors.specs.Erasing.{eraseOf, eraseAllOf}
+use Rattle.flash.specs.declared.Part.{Part}
+use Rattle.flash.specs.declared.Region.{Region}
+use Rattle.flash.specs.Regions.{isMainSize, mspm0Part, placeOf}
+use Rattle.flash.specs.Memory.{memory, bytesIn}
+use Rattle.flash.specs.Erasing.{eraseOf, eraseAllOf}
 use Rattle.flash.specs.Programming.{programOf}
-use Rattle.info.specs.Info.{infoTold}
-use Rattle.decisions.specs.declared.Effect.{Effect}
-use Rattle.decisions.specs.Unlocking.{tried}
-use Rattle.judge.specs.Hearing.{judgedOf}
-use Rattle.act.specs.Board.{acted, board}
-use Rattle.act.specs.Acting.{actOf}
-use Rattle.sending.specs.Answering.{answerOf}
-use Rattle.sessions.specs.declared.Session.{Session}
-use Rattle.sessions.specs.declared.StartAnswer.{StartAnswer}
-use Rattle.loader.specs.declared.CallAnswer.{CallAnswer}
-use Rattle.loader.specs.declared.Called.{Called}
-use Rattle.sessions.specs.Answers.{startNumbered, startTold}
-use Rattle.loader.specs.Answers.{callNumbered, left, callLeft}
-use Rattle.sessions.specs.Starting.{startOf}
-use Rattle.loader.specs.Calling.{callOf}
-use Rattle.in_place.specs.Starting.{startLeft, startInPlace}
-use Rattle.numbers.specs.OneNumber.{refusalOf}
-use Rattle.numbers.specs.Stored.{Stored, stored}
-use Rattle.rig_offline.specs.SettingsFromC.{readFromC, writeFromC}
-use Rattle.rig.specs.Boundary as rig
-use Rattle.script.specs.Form.{scriptTold, scriptOf, waitIn, packetIn}
-use Rattle.lines.specs.Writing.{lineOf, Written, written, writtenOf}
-use Rattle.end_line.specs.EndLine.{endOf}
+use Rattle.session_judge.specs.declared.Effect.{Effect}
+use Rattle.session_judge.specs.Hearing.{judgedOf}
+use Rattle.session_act.specs.Board.{acted, board}
+use Rattle.session_act.specs.Acting.{actOf}
+use Rattle.session_send.specs.Answering.{answerOf}
+use Rattle.session.specs.declared.Session.{Session}
+use Rattle.session.specs.declared.StartAnswer.{StartAnswer}
+use Rattle.session.specs.declared.CallAnswer.{CallAnswer}
+use Rattle.session.specs.declared.Called.{Called}
+use Rattle.session.specs.StartAnswers.{startNumbered, startTold}
+use Rattle.session.specs.CallAnswers.{callNumbered, left, callLeft}
+use Rattle.session.specs.Starting.{startOf}
+use Rattle.session.specs.Calling.{callOf}
+use Rattle.session_in_place.specs.Starting.{startLeft, startInPlace}
+use Rattle.c_boundary.specs.OneNumber.{refusalOf}
+use Rattle.c_boundary.specs.Stored.{Stored, stored}
+use Rattle.c_boundary.specs.SettingsFromC.{readFromC, writeFromC}
+use Rattle.c_boundary.specs.Boundary as rig
+use Rattle.runner_text.specs.Form.{scriptTold, scriptOf, waitIn, packetIn}
+use Rattle.runner_text.specs.Writing.{lineOf, Written, written, writtenOf}
+use Rattle.runner_text.specs.EndLine.{endOf}
 use Rattle.claims.proofs.Answers.OneAnswer.{OneAnswer, given-back, as-said}
 use Rattle.claims.proofs.Answers.NumberedAnswers.{readBy, read-back, writtenBy, written-back, startedBy, started-back, calledBy, called-back, scriptBy, script-back}
 
--- ---- octets
+-- ---- octets: bytes read and compared
 
 pub least-is-one : (a b : ℕ) → OneAnswer (λ r. r ≡ min a b)
 least-is-one a b = as-said (min a b)
@@ -91,7 +87,7 @@ all-are-is-one value bytes = as-said (allAre value bytes)
 pub are-same-is-one : (some others : List ℕ) → OneAnswer (λ r. r ≡ areSame some others)
 are-same-is-one some others = as-said (areSame some others)
 
--- ---- stores
+-- ---- octets: bytes stored
 
 pub put-is-one : (area : List ℕ) (at : ℕ) (bytes : List ℕ) → OneAnswer (λ area'. area' ≡ sets area at bytes)
 put-is-one area at bytes = as-said (sets area at bytes)
@@ -110,12 +106,12 @@ checksum-of-is-one bytes = as-said (checksumOf bytes)
 pub checksum-from-is-one : (earlier : ℕ) (bytes : List ℕ) → OneAnswer (λ r. r ≡ checksumFrom earlier bytes)
 checksum-from-is-one earlier bytes = as-said (checksumFrom earlier bytes)
 
--- ---- hex
+-- ---- octets: bytes in hex
 
 pub put-hex-is-one : (area : List ℕ) (at : ℕ) (bytes : List ℕ) → OneAnswer (λ area'. area' ≡ sets area at (hexOf bytes))
 put-hex-is-one area at bytes = as-said (sets area at (hexOf bytes))
 
--- ---- wire
+-- ---- line: packets
 
 pub acknowledge-is-one : (packet : List ℕ) → OneAnswer (λ r. r ≡ acknowledgement packet)
 acknowledge-is-one packet = as-said (acknowledgement packet)
@@ -123,7 +119,7 @@ acknowledge-is-one packet = as-said (acknowledgement packet)
 pub read-command-is-one : (packet : List ℕ) → OneAnswer (λ r. r ≡ commandOf packet)
 read-command-is-one packet = as-said (commandOf packet)
 
--- ---- replies
+-- ---- line: replies
 
 sent-is-one : (value : Sent) → OneAnswer {A = ℕ × List ℕ} (λ r. sent (r .0) (r .1) ≡ value)
 sent-is-one = given-back (λ r. sent (r .0) (r .1)) (λ s. (s .size, s .area)) (λ r. refl)
@@ -131,7 +127,7 @@ sent-is-one = given-back (λ r. sent (r .0) (r .1)) (λ s. (s .size, s .area)) (
 pub write-reply-is-one : (reply : Reply) (bytes area : List ℕ) → OneAnswer {A = ℕ × List ℕ} (λ r. sent (r .0) (r .1) ≡ sentOf (replyBytes reply bytes) area)
 write-reply-is-one reply bytes area = sent-is-one (sentOf (replyBytes reply bytes) area)
 
--- ---- standing
+-- ---- session_state
 
 pub is-valid-is-one : (standing : Standing) → OneAnswer (λ r. r ≡ isValid standing)
 is-valid-is-one standing = as-said (isValid standing)
@@ -139,12 +135,12 @@ is-valid-is-one standing = as-said (isValid standing)
 pub rate-of-is-one : (id : ℕ) → OneAnswer (λ r. r ≡ rateOf id)
 rate-of-is-one id = as-said (rateOf id)
 
--- ---- waits
+-- ---- session_state: time
 
 pub pass-time-is-one : (standing : Standing) (wait : ℕ) → OneAnswer (λ r. r ≡ passTime standing wait)
 pass-time-is-one standing wait = as-said (passTime standing wait)
 
--- ---- values
+-- ---- settings: values
 
 pub are-allowed-is-one : (shown : Shown) → OneAnswer (λ r. r ≡ isAllowed shown)
 are-allowed-is-one shown = as-said (isAllowed shown)
@@ -155,15 +151,7 @@ blank-is-one = as-said blankSettings
 pub none-is-one : OneAnswer (λ r. r ≡ noSettings)
 none-is-one = as-said noSettings
 
--- ---- layout
-
-pub put-table-is-one : (image : List ℕ) → OneAnswer (λ image'. image' ≡ sets image 0 (pairsOf (tableOf form1)))
-put-table-is-one image = as-said (sets image 0 (pairsOf (tableOf form1)))
-
-pub differing-entry-is-one : (image : List ℕ) → OneAnswer (λ r. r ≡ differingEntry form1 image)
-differing-entry-is-one image = as-said (differingEntry form1 image)
-
--- ---- fields
+-- ---- settings: fields
 
 pub read-fields-is-one : (fields : List ℕ) → OneAnswer (λ r. r ≡ fieldsRead form1 fields)
 read-fields-is-one fields = as-said (fieldsRead form1 fields)
@@ -171,7 +159,7 @@ read-fields-is-one fields = as-said (fieldsRead form1 fields)
 pub put-fields-is-one : (area : List ℕ) (at : ℕ) (settings : Settings) → OneAnswer (λ area'. area' ≡ sets area at (bodiesOf settings))
 put-fields-is-one area at settings = as-said (sets area at (bodiesOf settings))
 
--- ---- settings
+-- ---- settings: the image
 
 pub read-is-one : (image : List ℕ) → OneAnswer (λ r. readTold r ≡ readOf form1 image)
 read-is-one image =
@@ -185,7 +173,7 @@ write-is-one settings image =
     (λ r. ap (λ answer. (answer, r .1)) (written-back (r .0)))
     (writeOf form1 settings image)
 
--- ---- regions
+-- ---- flash: regions
 
 pub mspm0-is-one : OneAnswer (λ r. r ≡ mspm0Part)
 mspm0-is-one = as-said mspm0Part
@@ -200,10 +188,7 @@ locate-is-one part mainSize first count = as-said (placeOf part mainSize first c
 pub bytes-in-is-one : (region : Region) (offset size : ℕ) (main image : List ℕ) → OneAnswer (λ r. r ≡ bytesIn offset size (memory main image) region)
 bytes-in-is-one region offset size main image = as-said (bytesIn offset size (memory main image) region)
 
--- ---- sectors
-
-pub is-protected-is-one : (protection : List ℕ) (sector : ℕ) → OneAnswer (λ r. r ≡ isProtected protection sector)
-is-protected-is-one protection sector = as-said (isProtected protection sector)
+-- ---- flash: sectors
 
 pub erase-is-one : (memory : List ℕ) (sectorSize : ℕ) (protection : List ℕ) (first last : ℕ) → OneAnswer (λ memory'. memory' ≡ eraseOf sectorSize protection first last memory)
 erase-is-one memory sectorSize protection first last = as-said (eraseOf sectorSize protection first last memory)
@@ -211,12 +196,12 @@ erase-is-one memory sectorSize protection first last = as-said (eraseOf sectorSi
 pub erase-all-is-one : (memory : List ℕ) (sectorSize : ℕ) (protection : List ℕ) → OneAnswer (λ memory'. memory' ≡ eraseAllOf sectorSize protection memory)
 erase-all-is-one memory sectorSize protection = as-said (eraseAllOf sectorSize protection memory)
 
--- ---- flash
+-- ---- flash: programming
 
 pub program-is-one : (memory : List ℕ) (sectorSize : ℕ) (protection : List ℕ) (at : ℕ) (bytes : List ℕ) → OneAnswer (λ memory'. memory' ≡ programOf sectorSize protection at bytes memory)
 program-is-one memory sectorSize protection at bytes = as-said (programOf sectorSize protection at bytes memory)
 
--- ---- sessions
+-- ---- session: its start
 
 pub start-is-one : (fuse : Bool) (main image : List ℕ) → OneAnswer (λ r. startTold r ≡ startOf fuse main image)
 start-is-one fuse main image =
@@ -224,22 +209,12 @@ start-is-one fuse main image =
     (λ r. ap (λ answer. record { answer = answer; session = r .session }) (started-back (r .answer)))
     (startOf fuse main image)
 
--- ---- decisions
-
-pub tried-is-one : (standing : Standing) (alert : ℕ) (right : Bool) → OneAnswer (λ r. r ≡ tried standing alert right)
-tried-is-one standing alert right = as-said (tried standing alert right)
-
--- ---- judge
+-- ---- session_judge
 
 pub judge-is-one : (standing : Standing) (alert wait : ℕ) (packet : List ℕ) (right : Bool) → OneAnswer (λ r. r ≡ judgedOf standing alert wait packet right)
 judge-is-one standing alert wait packet right = as-said (judgedOf standing alert wait packet right)
 
--- ---- info
-
-pub info-is-one : (shown : Shown) (main : List ℕ) → OneAnswer (λ r. r ≡ infoTold shown main)
-info-is-one shown main = as-said (infoTold shown main)
-
--- ---- act
+-- ---- session_act
 
 pub act-is-one : (effect : Effect) (shown : Shown) (protection : List ℕ) (mainSize : ℕ) (right : Bool) (packet main image : List ℕ)
     → OneAnswer {A = Reply × List ℕ × List ℕ}
@@ -248,13 +223,13 @@ act-is-one effect shown protection mainSize right packet main image =
     given-back (λ r. acted (r .0) (memory (r .1) (r .2))) (λ l. (l .reply, l .memory .main, l .memory .settings)) (λ r. refl)
     (actOf (board mainSize shown protection) right packet (memory main image) effect)
 
--- ---- sending
+-- ---- session_send
 
 pub answer-is-one : (effect : Effect) (reply : Reply) (packet : List ℕ) (mainSize : ℕ) (main image area : List ℕ)
     → OneAnswer {A = ℕ × List ℕ} (λ r. sent (r .0) (r .1) ≡ answerOf effect reply packet mainSize (memory main image) area)
 answer-is-one effect reply packet mainSize main image area = sent-is-one (answerOf effect reply packet mainSize (memory main image) area)
 
--- ---- loader
+-- ---- session: its calls
 
 pub call-is-one : (session : Session) (main image : List ℕ) (wait : ℕ) (packet area : List ℕ)
     → OneAnswer {A = Called × List ℕ × List ℕ × List ℕ}
@@ -265,7 +240,7 @@ call-is-one session main image wait packet area =
     (λ r. ap (λ answer. (record { answer = answer; session = r .0 .session }, r .1, r .2, r .3)) (called-back (r .0 .answer)))
     (callOf session (memory main image) wait packet area)
 
--- ---- in_place
+-- ---- session_in_place
 
 pub in-place-start-is-one : (session : Session) (fuse : Bool) (main image : List ℕ)
     → OneAnswer {A = StartAnswer × Session} (λ r. startLeft (startNumbered (r .0)) (r .1) ≡ startInPlace session fuse main image)
@@ -283,12 +258,12 @@ in-place-call-is-one session main image wait packet area =
     (λ r. ap (λ answer. (answer, r .1, r .2, r .3, r .4)) (called-back (r .0)))
     (callOf session (memory main image) wait packet area)
 
--- ---- numbers
+-- ---- c_boundary: numbers
 
 pub of-refusal-is-one : (refusal : Refusal) → OneAnswer (λ r. r ≡ refusalOf (refusalNumbered refusal))
 of-refusal-is-one refusal = as-said (refusalOf (refusalNumbered refusal))
 
--- ---- rig_offline
+-- ---- c_boundary: settings and rates
 
 pub bhorelmu-rate-is-one : (id : ℕ) → OneAnswer (λ r. r ≡ rateOf id)
 bhorelmu-rate-is-one = rate-of-is-one
@@ -302,7 +277,7 @@ bhorelmu-settings-read-is-one image fields = stored-is-one (readFromC image fiel
 pub bhorelmu-settings-write-is-one : (fields image : List ℕ) → OneAnswer {A = ℕ × List ℕ} (λ r. stored (r .0) (r .1) ≡ writeFromC fields image)
 bhorelmu-settings-write-is-one fields image = stored-is-one (writeFromC fields image)
 
--- ---- rig
+-- ---- c_boundary: sessions
 
 pub bhorelmu-start-is-one : (fuse : ℕ) (main settings area : List ℕ) → OneAnswer {A = ℕ × List ℕ} (λ r. stored (r .0) (r .1) ≡ rig.startFromC fuse main settings area)
 bhorelmu-start-is-one fuse main settings area = stored-is-one (rig.startFromC fuse main settings area)
@@ -315,7 +290,7 @@ bhorelmu-call-is-one area main settings wait packet reply =
     (λ l. (l .answer, l .area, l .memory .main, l .memory .settings, l .reply)) (λ r. refl)
     (rig.callFromC area (memory main settings) wait packet reply)
 
--- ---- script
+-- ---- runner_text: scripts
 
 pub read-script-is-one : (script : List ℕ) → OneAnswer (λ r. scriptTold r ≡ scriptOf script)
 read-script-is-one script = given-back scriptTold scriptBy script-back (scriptOf script)
@@ -327,7 +302,7 @@ wait-of-is-one script index = as-said (waitIn script index)
 pub packet-of-is-one : (script : List ℕ) (index : ℕ) → OneAnswer (λ r. r ≡ packetIn script index)
 packet-of-is-one script index = as-said (packetIn script index)
 
--- ---- lines
+-- ---- runner_text: lines
 
 line-is-one : (value : Written) → OneAnswer {A = ℕ × List ℕ} (λ r. written (r .0) (r .1) ≡ value)
 line-is-one = given-back (λ r. written (r .0) (r .1)) (λ w. (w .size, w .area)) (λ r. refl)
@@ -335,7 +310,7 @@ line-is-one = given-back (λ r. written (r .0) (r .1)) (λ w. (w .size, w .area)
 pub write-line-is-one : (number : ℕ) (reply area : List ℕ) → OneAnswer {A = ℕ × List ℕ} (λ r. written (r .0) (r .1) ≡ writtenOf (lineOf number reply) area)
 write-line-is-one number reply area = line-is-one (writtenOf (lineOf number reply) area)
 
--- ---- end_line
+-- ---- runner_text: the end line
 
 pub write-end-is-one : (phase : Phase) (area : List ℕ) → OneAnswer {A = ℕ × List ℕ} (λ r. written (r .0) (r .1) ≡ writtenOf (endOf phase) area)
 write-end-is-one phase area = line-is-one (writtenOf (endOf phase) area)

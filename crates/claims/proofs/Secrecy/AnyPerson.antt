@@ -4,9 +4,9 @@ use mathlib.Core.Path.{_≡_, refl, sym, ap, subst, _∙_}
 use mathlib.Core.Bool.{false}
 use mathlib.Core.List.{List, [], _∷_}
 use Prim.Native.Nat.{ℕ, zero, suc}
-use Rattle.standing.specs.Phases.{atStart}
-use Rattle.rig.specs.Records.{recordOf}
-use Rattle.sessions.specs.Starting.{startOf}
+use Rattle.session_state.specs.Phases.{atStart}
+use Rattle.c_boundary.specs.Records.{recordOf}
+use Rattle.session.specs.Starting.{startOf}
 use Rattle.claims.specs.TwoBoards.{Images, Running, started, AlikeBoards, Sending, WithoutPassword, called, next, Flash, AlikeThroughout}
 use Rattle.claims.specs.TwoBoardsFromC.{RunningFromC, startedFromC, Lent, calledFromC, nextFromC, lockIn, wrongIn, AlikeCallsFromC, AlikeSessionsFromC}
 use Rattle.claims.specs.Visits.{Person, Step, Visit, visited, AllWithout, AlikeVisits, Seen, stepOf, visitOne, visitOther, StandAlike, SeenFromC, stepFromC, visitOneFromC, visitOtherFromC, StandAlikeFromC}

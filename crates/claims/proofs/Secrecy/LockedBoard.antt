@@ -7,19 +7,19 @@ use lib.Dec.{eqb}
 use lib.ListN.{length}
 use Rattle.octets.specs.Choice.{pick}
 use Rattle.octets.proofs.Searching.{pick-true, pick-false, by-test}
-use Rattle.standing.specs.declared.Standing.{Standing}
-use Rattle.standing.specs.Phases.{atStart, isUnlocked}
-use Rattle.regions.specs.Memory.{Memory, memory}
-use Rattle.sectors.specs.Erasing.{eraseAllOf}
-use Rattle.sectors.proofs.ErasingLaws.{erase-all-keeps-length, erase-all-at, erase-all-twice}
-use Rattle.decisions.specs.Unlocking.{alertReset}
-use Rattle.act.specs.Board.{Board, board, sectorSize, settingsProtection}
-use Rattle.act.specs.Erasing.{allErased}
-use Rattle.info.specs.Info.{versionAt}
-use Rattle.act.proofs.LockedLaws.{erased-versions-alike}
-use Rattle.sessions.specs.declared.Session.{Session}
-use Rattle.loader.specs.Records.{isRecord}
-use Rattle.sessions.specs.Starting.{startOf}
+use Rattle.session_state.specs.declared.Standing.{Standing}
+use Rattle.session_state.specs.Phases.{atStart, isUnlocked}
+use Rattle.flash.specs.Memory.{Memory, memory}
+use Rattle.flash.specs.Erasing.{eraseAllOf}
+use Rattle.flash.proofs.ErasingLaws.{erase-all-keeps-length, erase-all-at, erase-all-twice}
+use Rattle.session_judge.specs.Unlocking.{alertReset}
+use Rattle.session_act.specs.Board.{Board, board, sectorSize, settingsProtection}
+use Rattle.session_act.specs.Erasing.{allErased}
+use Rattle.session_act.specs.Info.{versionAt}
+use Rattle.session_act.proofs.LockedLaws.{erased-versions-alike}
+use Rattle.session.specs.declared.Session.{Session}
+use Rattle.session.specs.Records.{isRecord}
+use Rattle.session.specs.Starting.{startOf}
 use Rattle.claims.specs.TwoBoards.{Images, Running, settingsOf, started, isStruck, AsClaimed, Flash}
 use Rattle.claims.proofs.Sessions.CallRules.{started-session, started-is-valid}
 

@@ -8,27 +8,27 @@ use lib.Dec.{eqb}
 use lib.ListN.{length}
 use Rattle.octets.specs.Choice.{pick}
 use Rattle.octets.proofs.Searching.{pick-true, pick-false, by-test}
-use Rattle.wire.specs.Codes.{replyLimit}
-use Rattle.replies.specs.Replies.{replyBytes, Sent}
-use Rattle.standing.specs.declared.Standing.{Standing}
-use Rattle.standing.specs.Phases.{isUnlocked}
-use Rattle.regions.specs.Memory.{Memory}
-use Rattle.decisions.specs.declared.Effect.{Effect}
-use Rattle.decisions.specs.declared.Effect.the-variants.{Strike}
-use Rattle.decisions.specs.declared.Judged.{Judged}
-use Rattle.decisions.specs.Unlocking.{alertReset}
-use Rattle.decisions.proofs.EffectTests.{isPerformed}
-use Rattle.judge.specs.Hearing.{judgedOf}
-use Rattle.judge.proofs.JudgeLaws.{wrong-never-unlocks, locked-performs-nothing, strikes-at-three}
-use Rattle.judge.proofs.StrangerLaws.{only-unlock-is-compared, no-third-without-strike}
-use Rattle.act.specs.Board.{Acted}
-use Rattle.act.proofs.LockedLaws.{only-strikes-change}
-use Rattle.sending.specs.Answering.{hushed, answerOf}
-use Rattle.sending.proofs.AnsweringLaws.{whole, no-bytes-asked}
-use Rattle.loader.specs.Answers.{Left, left, callTold}
-use Rattle.loader.specs.Calling.{judgement, deed, carriedOut, serveOf}
-use Rattle.loader.proofs.RecordLaws.{record-by-clauses}
-use Rattle.loader.proofs.ToldLaws.{act-is-told-whole}
+use Rattle.line.specs.Codes.{replyLimit}
+use Rattle.line.specs.Replies.{replyBytes, Sent}
+use Rattle.session_state.specs.declared.Standing.{Standing}
+use Rattle.session_state.specs.Phases.{isUnlocked}
+use Rattle.flash.specs.Memory.{Memory}
+use Rattle.session_judge.specs.declared.Effect.{Effect}
+use Rattle.session_judge.specs.declared.Effect.the-variants.{Strike}
+use Rattle.session_judge.specs.declared.Judged.{Judged}
+use Rattle.session_judge.specs.Unlocking.{alertReset}
+use Rattle.session_judge.proofs.EffectTests.{isPerformed}
+use Rattle.session_judge.specs.Hearing.{judgedOf}
+use Rattle.session_judge.proofs.JudgeLaws.{wrong-never-unlocks, locked-performs-nothing, strikes-at-three}
+use Rattle.session_judge.proofs.StrangerLaws.{only-unlock-is-compared, no-third-without-strike}
+use Rattle.session_act.specs.Board.{Acted}
+use Rattle.session_act.proofs.LockedLaws.{only-strikes-change}
+use Rattle.session_send.specs.Answering.{hushed, answerOf}
+use Rattle.session_send.proofs.AnsweringLaws.{whole, no-bytes-asked}
+use Rattle.session.specs.CallAnswers.{Left, left, callTold}
+use Rattle.session.specs.Calling.{judgement, deed, carriedOut, serveOf}
+use Rattle.session.proofs.RecordLaws.{record-by-clauses}
+use Rattle.session.proofs.ToldLaws.{act-is-told-whole}
 use Rattle.claims.specs.TwoBoards.{Images, settingsOf, Carries, Sending, called, next, isStruck}
 use Rattle.claims.proofs.Sessions.CallRules.{not-found, valid-is-served, valid-stays-valid}
 use Rattle.claims.proofs.Secrecy.LockedBoard.{alertOf, lets, memoryThen, sessionThen, later, HasRecord, Locked, strike-erases}

@@ -6,20 +6,20 @@ use mathlib.Core.List.{List, [], _∷_}
 use Prim.Native.Nat.{ℕ}
 use lib.ListN.{length}
 use lib.Seq.{take-append-seam}
-use Rattle.replies.specs.declared.Reply.{Reply}
-use Rattle.replies.specs.Replies.{replyBytes}
-use Rattle.standing.specs.declared.Standing.{Standing}
-use Rattle.standing.specs.Phases.{atStart, isUnlocked}
-use Rattle.values.specs.declared.Shown.{Shown}
-use Rattle.decisions.specs.declared.Effect.{Effect}
-use Rattle.decisions.specs.declared.Judged.{Judged}
-use Rattle.decisions.proofs.EffectTests.{isPerformed}
-use Rattle.judge.specs.Hearing.{judgedOf}
-use Rattle.act.specs.Board.{sectorSize}
-use Rattle.info.specs.Info.{versionAt}
-use Rattle.act.proofs.LockedLaws.{told-alike}
-use Rattle.sending.specs.Answering.{hushed}
-use Rattle.loader.specs.Answers.{callTold}
+use Rattle.line.specs.declared.Reply.{Reply}
+use Rattle.line.specs.Replies.{replyBytes}
+use Rattle.session_state.specs.declared.Standing.{Standing}
+use Rattle.session_state.specs.Phases.{atStart, isUnlocked}
+use Rattle.settings.specs.declared.Shown.{Shown}
+use Rattle.session_judge.specs.declared.Effect.{Effect}
+use Rattle.session_judge.specs.declared.Judged.{Judged}
+use Rattle.session_judge.proofs.EffectTests.{isPerformed}
+use Rattle.session_judge.specs.Hearing.{judgedOf}
+use Rattle.session_act.specs.Board.{sectorSize}
+use Rattle.session_act.specs.Info.{versionAt}
+use Rattle.session_act.proofs.LockedLaws.{told-alike}
+use Rattle.session_send.specs.Answering.{hushed}
+use Rattle.session.specs.CallAnswers.{callTold}
 use Rattle.claims.specs.TwoBoards.{Images, settingsOf, started, AlikeBoards, Sending, WithoutPassword, called, isStruck, Alike, AlikeThroughout}
 use Rattle.claims.proofs.Secrecy.LockedBoard.{imageThen, versions-stay-alike, alertOf, lets, later, Locked, flash-is-as-claimed, started-is-later, started-is-locked}
 use Rattle.claims.proofs.Secrecy.LockedCall.{verdict, bytesThen, leftThen, performs-nothing, call-is, stays-locked}

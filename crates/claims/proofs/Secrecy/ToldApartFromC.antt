@@ -9,24 +9,24 @@ use lib.ListN.{length, take}
 use Rattle.octets.specs.Choice.{pick}
 use Rattle.octets.specs.Number.{bytesOf}
 use Rattle.octets.proofs.Searching.{pick-true, pick-false}
-use Rattle.wire.specs.Codes.{replyLimit}
-use Rattle.standing.specs.declared.Phase.{Phase}
-use Rattle.standing.specs.declared.Phase.the-variants.{Detect, Command, Standby, Ended, Disabled}
-use Rattle.standing.specs.declared.Standing.{Standing}
-use Rattle.standing.specs.Phases.{isUnlocked}
-use Rattle.layout.specs.Layout.{form1}
+use Rattle.line.specs.Codes.{replyLimit}
+use Rattle.session_state.specs.declared.Phase.{Phase}
+use Rattle.session_state.specs.declared.Phase.the-variants.{Detect, Command, Standby, Ended, Disabled}
+use Rattle.session_state.specs.declared.Standing.{Standing}
+use Rattle.session_state.specs.Phases.{isUnlocked}
+use Rattle.settings.specs.Layout.{form1}
 use Rattle.settings.specs.Answers.{numbered}
 use Rattle.settings.specs.Reader.{readOf}
-use Rattle.sessions.specs.declared.Session.{Session}
-use Rattle.loader.specs.Answers.{CallTold, Left}
-use Rattle.sessions.specs.Starting.{startOf}
-use Rattle.loader.specs.Calling.{serveOf, callOf}
-use Rattle.loader.proofs.CallLaws.{every-call, call-size-fits}
-use Rattle.loader.proofs.RecordLaws.{record-by-clauses}
-use Rattle.numbers.specs.OneNumber.{refusalUnit, burnUnit, oneNumber}
-use Rattle.numbers.specs.Stored.{Stored, stored, storedBy}
-use Rattle.rig.specs.Records.{recordSize, lockCode, standingBytes, recordOf}
-use Rattle.rig.specs.Boundary.{Called, storedAfter, calledFrom, calledAfter, callFromC}
+use Rattle.session.specs.declared.Session.{Session}
+use Rattle.session.specs.CallAnswers.{CallTold, Left}
+use Rattle.session.specs.Starting.{startOf}
+use Rattle.session.specs.Calling.{serveOf, callOf}
+use Rattle.session.proofs.CallLaws.{every-call, call-size-fits}
+use Rattle.session.proofs.RecordLaws.{record-by-clauses}
+use Rattle.c_boundary.specs.OneNumber.{refusalUnit, burnUnit, oneNumber}
+use Rattle.c_boundary.specs.Stored.{Stored, stored, storedBy}
+use Rattle.c_boundary.specs.Records.{recordSize, lockCode, standingBytes, recordOf}
+use Rattle.c_boundary.specs.Boundary.{Called, storedAfter, calledFrom, calledAfter, callFromC}
 use Rattle.claims.specs.Held.{Held}
 use Rattle.claims.specs.TwoBoards.{Images, Running, started, AlikeBoards, Sending, called, next, replied, Flash, Alike, AlikeThroughout}
 use Rattle.claims.specs.TwoBoardsFromC.{RunningFromC, startedOn, startedFromC, Lent, calledFromC, repliedFromC, standsFromC, lockIn, AlikeFromC, AlikeCallsFromC, AlikeSessionsFromC}

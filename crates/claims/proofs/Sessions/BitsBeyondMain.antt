@@ -7,29 +7,29 @@ use lib.Dec.{ltb, eqb}
 use lib.ListN.{length}
 use Rattle.octets.specs.Choice.{pick}
 use Rattle.octets.proofs.Searching.{pick-true, pick-false, by-test}
-use Rattle.wire.specs.Codes.{replyLimit}
-use Rattle.wire.specs.Codes as codes
-use Rattle.wire.specs.declared.Guarded.{Guarded}
-use Rattle.wire.specs.declared.Guarded.the-variants as guarded
-use Rattle.values.specs.declared.Shown.{Shown}
-use Rattle.regions.specs.declared.Region.{Region}
-use Rattle.regions.specs.declared.Region.the-variants.{Main, Settings, Outside}
-use Rattle.regions.specs.Regions.{mspm0Part, placeOf}
-use Rattle.regions.specs.Memory.{Memory, memory}
-use Rattle.sectors.specs.Protection.{isProtected}
-use Rattle.sectors.specs.Erasing.{eraseOf, eraseAllOf}
-use Rattle.sectors.proofs.ProtectionLaws.{bits-beyond-have-no-effect}
+use Rattle.line.specs.Codes.{replyLimit}
+use Rattle.line.specs.Codes as codes
+use Rattle.line.specs.declared.Guarded.{Guarded}
+use Rattle.line.specs.declared.Guarded.the-variants as guarded
+use Rattle.settings.specs.declared.Shown.{Shown}
+use Rattle.flash.specs.declared.Region.{Region}
+use Rattle.flash.specs.declared.Region.the-variants.{Main, Settings, Outside}
+use Rattle.flash.specs.Regions.{mspm0Part, placeOf}
+use Rattle.flash.specs.Memory.{Memory, memory}
+use Rattle.flash.specs.Protection.{isProtected}
+use Rattle.flash.specs.Erasing.{eraseOf, eraseAllOf}
+use Rattle.flash.proofs.ProtectionLaws.{bits-beyond-have-no-effect}
 use Rattle.flash.specs.Programming.{programOf}
-use Rattle.decisions.specs.declared.Effect.{Effect}
-use Rattle.decisions.specs.declared.Effect.the-variants.{Say, TellInfo, Strike, Perform}
-use Rattle.act.specs.Board.{Acted, tells, Board, board, sectorSize, settingsProtection}
-use Rattle.act.specs.Erasing.{rangeEraseIn, rangeErase, allErased, resetAnswer, factoryReset}
-use Rattle.act.specs.Programming.{isOutside, isAligned, programmed, programAt}
-use Rattle.act.specs.Acting.{performed, actOf}
-use Rattle.sessions.specs.declared.Session.{Session}
-use Rattle.loader.specs.Answers.{Left, left}
-use Rattle.loader.specs.Records.{isRecord}
-use Rattle.loader.specs.Calling.{judgement, answered, serveOf, callOf}
+use Rattle.session_judge.specs.declared.Effect.{Effect}
+use Rattle.session_judge.specs.declared.Effect.the-variants.{Say, TellInfo, Strike, Perform}
+use Rattle.session_act.specs.Board.{Acted, tells, Board, board, sectorSize, settingsProtection}
+use Rattle.session_act.specs.Erasing.{rangeEraseIn, rangeErase, allErased, resetAnswer, factoryReset}
+use Rattle.session_act.specs.Programming.{isOutside, isAligned, programmed, programAt}
+use Rattle.session_act.specs.Acting.{performed, actOf}
+use Rattle.session.specs.declared.Session.{Session}
+use Rattle.session.specs.CallAnswers.{Left, left}
+use Rattle.session.specs.Records.{isRecord}
+use Rattle.session.specs.Calling.{judgement, answered, serveOf, callOf}
 
 -- bits that say the same of every sector of a memory of so many bytes
 abbrev pub AgreeWithin : ℕ → List ℕ → List ℕ → Type 0

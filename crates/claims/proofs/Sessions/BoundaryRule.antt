@@ -9,26 +9,26 @@ use lib.Dec.{ltb, eqb}
 use lib.ListN.{length, getD}
 use Rattle.octets.specs.Choice.{pick}
 use Rattle.octets.proofs.Searching.{by-pick}
-use Rattle.wire.specs.Codes.{replyLimit}
-use Rattle.values.specs.declared.Settings.{Settings}
-use Rattle.values.specs.Values.{isAllowed}
-use Rattle.layout.specs.Layout.{form1, imageSize}
-use Rattle.fields.specs.Bodies.{bodiesOf}
-use Rattle.fields.specs.Fields.{fieldsRead}
+use Rattle.line.specs.Codes.{replyLimit}
+use Rattle.settings.specs.declared.Settings.{Settings}
+use Rattle.settings.specs.Values.{isAllowed}
+use Rattle.settings.specs.Layout.{form1, imageSize}
+use Rattle.settings.specs.Bodies.{bodiesOf}
+use Rattle.settings.specs.Fields.{fieldsRead}
 use Rattle.settings.specs.Image.{imageOf}
 use Rattle.settings.specs.Answers.{Numbered, numbered, WriteLeft, writeLeft}
 use Rattle.settings.specs.Reader.{readOf}
 use Rattle.settings.specs.Writer.{writeOf}
-use Rattle.regions.specs.Memory.{Memory}
-use Rattle.numbers.specs.OneNumber.{refusalUnit, burnUnit, oneNumber, refusal, refusalOf}
-use Rattle.numbers.specs.Stored.{Stored, storedBy}
-use Rattle.fields.specs.FieldsArea.{fieldsAreaSize, zeroAt}
-use Rattle.rig_offline.specs.SettingsFromC.{readFromC, writeFromC}
-use Rattle.loader.specs.Answers.{Left}
-use Rattle.loader.specs.Calling.{callOf}
-use Rattle.loader.proofs.CallLaws.{refused-changes-nothing, call-size-fits}
-use Rattle.rig.specs.Records.{recordSize, recordOf, sessionIn, isRecordArea}
-use Rattle.rig.specs.Boundary.{startByFuse, startFromC, Called, called, storedAfter, calledFrom, calledAfter, callFromC}
+use Rattle.flash.specs.Memory.{Memory}
+use Rattle.c_boundary.specs.OneNumber.{refusalUnit, burnUnit, oneNumber, refusal, refusalOf}
+use Rattle.c_boundary.specs.Stored.{Stored, storedBy}
+use Rattle.settings.specs.FieldsArea.{fieldsAreaSize, zeroAt}
+use Rattle.c_boundary.specs.SettingsFromC.{readFromC, writeFromC}
+use Rattle.session.specs.CallAnswers.{Left}
+use Rattle.session.specs.Calling.{callOf}
+use Rattle.session.proofs.CallLaws.{refused-changes-nothing, call-size-fits}
+use Rattle.c_boundary.specs.Records.{recordSize, recordOf, sessionIn, isRecordArea}
+use Rattle.c_boundary.specs.Boundary.{startByFuse, startFromC, Called, called, storedAfter, calledFrom, calledAfter, callFromC}
 
 -- the top byte of eight is not 0
 abbrev Refused : ℕ → Type 0

@@ -10,39 +10,39 @@ use lib.Dec.{eqb}
 use lib.ListN.{length, getD}
 use Rattle.octets.specs.Choice.{pick}
 use Rattle.octets.proofs.Searching.{pick-false, pick-both, by-pick, by-test}
-use Rattle.wire.specs.Codes.{acknowledged, unlock, replyLimit}
-use Rattle.wire.specs.Packet.{passwordIn}
-use Rattle.wire.specs.declared.Command.the-variants.{Unlock}
-use Rattle.wire.specs.Acknowledgement.{isRate, acknowledgement}
-use Rattle.wire.specs.Commands.{commandOf}
-use Rattle.packets.proofs.PacketLaws.{unlock-is-password}
-use Rattle.standing.specs.declared.Phase.the-variants as phase
-use Rattle.standing.specs.Phases.{atStart, mostWrong, isValid}
-use Rattle.waits.specs.Waits.{passTime}
-use Rattle.standing.proofs.PhaseLaws.{valid-by-parts, start-is-valid}
-use Rattle.waits.proofs.WaitLaws.{long-wait-is-heard}
-use Rattle.values.specs.Values.{isAllowed, blankSettings}
-use Rattle.layout.specs.Layout.{imageSize, form1}
-use Rattle.layout.specs.Entries.{differingEntry}
-use Rattle.fields.specs.Bodies.{bodyIn, shownIn, settingsIn}
+use Rattle.line.specs.Codes.{acknowledged, unlock, replyLimit}
+use Rattle.line.specs.Packet.{passwordIn}
+use Rattle.line.specs.declared.Command.the-variants.{Unlock}
+use Rattle.line.specs.Acknowledgement.{isRate, acknowledgement}
+use Rattle.line.specs.Commands.{commandOf}
+use Rattle.line.proofs.PacketLaws.{unlock-is-password}
+use Rattle.session_state.specs.declared.Phase.the-variants as phase
+use Rattle.session_state.specs.Phases.{atStart, mostWrong, isValid}
+use Rattle.session_state.specs.Waits.{passTime}
+use Rattle.session_state.proofs.PhaseLaws.{valid-by-parts, start-is-valid}
+use Rattle.session_state.proofs.WaitLaws.{long-wait-is-heard}
+use Rattle.settings.specs.Values.{isAllowed, blankSettings}
+use Rattle.settings.specs.Layout.{imageSize, form1}
+use Rattle.settings.specs.Entries.{differingEntry}
+use Rattle.settings.specs.Bodies.{bodyIn, shownIn, settingsIn}
 use Rattle.settings.specs.Answers.{ReadTold, numbered}
 use Rattle.settings.specs.Reader.{isBlank, checksumDiffers, formUnknown, fillerDiffers, valueNotAllowed, readWritten, readOf}
-use Rattle.regions.specs.Memory.{Memory}
-use Rattle.decisions.specs.declared.Judged.{Judged}
-use Rattle.judge.proofs.JudgeLaws.{judge-keeps-valid, wrong-count-rises}
-use Rattle.judge.proofs.StrangerLaws.{only-unlock-is-compared}
-use Rattle.act.proofs.ActingLaws.{act-keeps-lengths}
-use Rattle.sessions.specs.declared.Session.{Session}
-use Rattle.sessions.specs.Answers.{StartTold}
-use Rattle.loader.specs.Answers.{Left}
-use Rattle.alike.specs.Alike.{areSame}
-use Rattle.regions.specs.Regions.{isMainSize}
-use Rattle.loader.specs.Records.{isRecord}
-use Rattle.sessions.specs.Starting.{sessionOf, noSession, startRead, startOf}
-use Rattle.loader.specs.Calling.{boardOf, judgement, serveOf, callOf}
-use Rattle.loader.proofs.CallLaws.{every-call}
-use Rattle.alike.proofs.AlikeLaws.{same-are-equal}
-use Rattle.loader.proofs.RecordLaws.{record-by-clauses, clauses-make-record}
+use Rattle.flash.specs.Memory.{Memory}
+use Rattle.session_judge.specs.declared.Judged.{Judged}
+use Rattle.session_judge.proofs.JudgeLaws.{judge-keeps-valid, wrong-count-rises}
+use Rattle.session_judge.proofs.StrangerLaws.{only-unlock-is-compared}
+use Rattle.session_act.proofs.ActingLaws.{act-keeps-lengths}
+use Rattle.session.specs.declared.Session.{Session}
+use Rattle.session.specs.StartAnswers.{StartTold}
+use Rattle.session.specs.CallAnswers.{Left}
+use Rattle.octets.specs.Alike.{areSame}
+use Rattle.flash.specs.Regions.{isMainSize}
+use Rattle.session.specs.Records.{isRecord}
+use Rattle.session.specs.Starting.{sessionOf, noSession, startRead, startOf}
+use Rattle.session.specs.Calling.{boardOf, judgement, serveOf, callOf}
+use Rattle.session.proofs.CallLaws.{every-call}
+use Rattle.octets.proofs.AlikeLaws.{same-are-equal}
+use Rattle.session.proofs.RecordLaws.{record-by-clauses, clauses-make-record}
 use Rattle.claims.specs.TwoBoards.{Carries}
 
 -- the comparison finds the password only in a packet that carries it

@@ -15,22 +15,22 @@ use Rattle.octets.proofs.Parts.{parts-join}
 use Rattle.octets.proofs.Searching.{by-pick}
 use Rattle.checksum.specs.Checksum.{bitOn, bitsOn, byteOn, checksumFrom, checksumOf}
 use Rattle.checksum.specs.Marked.{cases, every-marked-case-holds}
-use Rattle.wire.specs.Codes as codes
-use Rattle.wire.specs.declared.Command.{Command}
-use Rattle.wire.specs.declared.Command.the-variants as command
-use Rattle.wire.specs.Packet.{lengthIn, coreIn, codeIn}
-use Rattle.wire.specs.Acknowledgement.{rateUnknown, checksumDiffers, acknowledgement}
-use Rattle.wire.specs.Commands.{lengthFits, openOf, commandOf}
-use Rattle.packets.proofs.AcknowledgementLaws.{acknowledged-is-framed}
-use Rattle.packets.proofs.CommandLaws.{Stands, read-stands}
-use Rattle.fields.proofs.AgainLaws.{number-again}
-use Rattle.replies.specs.declared.Reply.the-variants.{Acknowledged}
-use Rattle.standing.specs.declared.Phase.the-variants as phase
-use Rattle.standing.specs.declared.Standing.{Standing}
-use Rattle.waits.specs.Waits.{movedTo}
-use Rattle.decisions.specs.declared.Judged.{Judged}
-use Rattle.decisions.specs.Judgement.{says}
-use Rattle.judge.specs.Hearing.{silently, detected, heardInDetect}
+use Rattle.line.specs.Codes as codes
+use Rattle.line.specs.declared.Command.{Command}
+use Rattle.line.specs.declared.Command.the-variants as command
+use Rattle.line.specs.Packet.{lengthIn, coreIn, codeIn}
+use Rattle.line.specs.Acknowledgement.{rateUnknown, checksumDiffers, acknowledgement}
+use Rattle.line.specs.Commands.{lengthFits, openOf, commandOf}
+use Rattle.line.proofs.AcknowledgementLaws.{acknowledged-is-framed}
+use Rattle.line.proofs.CommandLaws.{Stands, read-stands}
+use Rattle.settings.proofs.AgainLaws.{number-again}
+use Rattle.line.specs.declared.Reply.the-variants.{Acknowledged}
+use Rattle.session_state.specs.declared.Phase.the-variants as phase
+use Rattle.session_state.specs.declared.Standing.{Standing}
+use Rattle.session_state.specs.Waits.{movedTo}
+use Rattle.session_judge.specs.declared.Judged.{Judged}
+use Rattle.session_judge.specs.Judgement.{says}
+use Rattle.session_judge.specs.Hearing.{silently, detected, heardInDetect}
 
 -- 01, Marked cases and the rest: "request checksums (004) 12: 3A 61 44 DE"
 abbrev pub exactConnect : List ℕ

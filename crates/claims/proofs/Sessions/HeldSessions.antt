@@ -5,15 +5,15 @@ use Prim.Native.Nat.{ℕ, _^_, _<_}
 use native.Mathlib.Omega.{arith}
 use borrow.Author.Tests.{eqb-true, leb-true}
 use Rattle.octets.specs.Choice.{pick}
-use Rattle.standing.specs.declared.Phase.{Phase}
-use Rattle.standing.specs.declared.Phase.the-variants.{Detect, Command, Standby, Ended, Disabled}
-use Rattle.standing.specs.Phases.{isValidPhase}
-use Rattle.standing.proofs.PhaseLaws.{valid-by-parts}
-use Rattle.sessions.specs.declared.Session.{Session}
-use Rattle.loader.specs.Records.{isRecord}
-use Rattle.regions.proofs.RegionLaws.{main-size-is-small}
-use Rattle.loader.proofs.RecordLaws.{record-by-clauses}
-use Rattle.rig.specs.Records.{sleepOf}
+use Rattle.session_state.specs.declared.Phase.{Phase}
+use Rattle.session_state.specs.declared.Phase.the-variants.{Detect, Command, Standby, Ended, Disabled}
+use Rattle.session_state.specs.Phases.{isValidPhase}
+use Rattle.session_state.proofs.PhaseLaws.{valid-by-parts}
+use Rattle.session.specs.declared.Session.{Session}
+use Rattle.session.specs.Records.{isRecord}
+use Rattle.flash.proofs.RegionLaws.{main-size-is-small}
+use Rattle.session.proofs.RecordLaws.{record-by-clauses}
+use Rattle.c_boundary.specs.Records.{sleepOf}
 use Rattle.claims.specs.Held.{Held, HeldSession}
 
 sleep-held : (phase : Phase) → isValidPhase phase ≡ true → sleepOf phase < 256 ^ 4

@@ -9,32 +9,32 @@ use lib.Dec.{ltb, eqb}
 use lib.ListN.{length, getD}
 use Rattle.octets.specs.Choice.{pick}
 use Rattle.octets.proofs.Searching.{by-pick}
-use Rattle.wire.specs.Codes.{replyLimit, isOneOf}
-use Rattle.values.specs.declared.Settings.{Settings}
-use Rattle.values.specs.Values.{isAllowed}
-use Rattle.layout.specs.Layout.{form1, imageSize}
-use Rattle.layout.specs.Entries.{differingEntry}
-use Rattle.fields.specs.Bodies.{bodiesOf}
-use Rattle.fields.specs.Fields.{fieldsRead}
+use Rattle.line.specs.Codes.{replyLimit, isOneOf}
+use Rattle.settings.specs.declared.Settings.{Settings}
+use Rattle.settings.specs.Values.{isAllowed}
+use Rattle.settings.specs.Layout.{form1, imageSize}
+use Rattle.settings.specs.Entries.{differingEntry}
+use Rattle.settings.specs.Bodies.{bodiesOf}
+use Rattle.settings.specs.Fields.{fieldsRead}
 use Rattle.settings.specs.Answers.{Numbered, numbered, ReadTold, WriteLeft}
 use Rattle.settings.specs.Reader.{isBlank, checksumDiffers, formUnknown, fillerDiffers, valueNotAllowed, readWritten, readOf}
 use Rattle.settings.specs.Writer.{writeOf}
 use Rattle.settings.proofs.ReaderLaws.{differing-entry-there}
-use Rattle.regions.specs.Memory.{Memory}
-use Rattle.regions.specs.Regions.{isMainSize}
-use Rattle.sessions.specs.declared.Session.{Session}
-use Rattle.sessions.specs.Answers.{StartTold}
-use Rattle.sessions.specs.Starting.{startRead, startOf}
-use Rattle.loader.specs.Answers.{Left}
-use Rattle.loader.specs.Records.{isRecord}
-use Rattle.loader.specs.Calling.{serveOf, callOf}
-use Rattle.loader.proofs.CallLaws.{call-size-fits}
-use Rattle.numbers.specs.OneNumber.{refusalUnit, burnUnit, oneNumber, refusal, refusalOf}
-use Rattle.numbers.specs.Stored.{Stored, storedBy}
-use Rattle.fields.specs.FieldsArea.{fieldsAreaSize, zeroAt}
-use Rattle.rig_offline.specs.SettingsFromC.{readFromC, writeFromC}
-use Rattle.rig.specs.Records.{recordSize, recordOf, sessionIn, isRecordArea}
-use Rattle.rig.specs.Boundary.{startByFuse, startFromC, Called, storedAfter, calledFrom, callFromC}
+use Rattle.flash.specs.Memory.{Memory}
+use Rattle.flash.specs.Regions.{isMainSize}
+use Rattle.session.specs.declared.Session.{Session}
+use Rattle.session.specs.StartAnswers.{StartTold}
+use Rattle.session.specs.Starting.{startRead, startOf}
+use Rattle.session.specs.CallAnswers.{Left}
+use Rattle.session.specs.Records.{isRecord}
+use Rattle.session.specs.Calling.{serveOf, callOf}
+use Rattle.session.proofs.CallLaws.{call-size-fits}
+use Rattle.c_boundary.specs.OneNumber.{refusalUnit, burnUnit, oneNumber, refusal, refusalOf}
+use Rattle.c_boundary.specs.Stored.{Stored, storedBy}
+use Rattle.settings.specs.FieldsArea.{fieldsAreaSize, zeroAt}
+use Rattle.c_boundary.specs.SettingsFromC.{readFromC, writeFromC}
+use Rattle.c_boundary.specs.Records.{recordSize, recordOf, sessionIn, isRecordArea}
+use Rattle.c_boundary.specs.Boundary.{startByFuse, startFromC, Called, storedAfter, calledFrom, callFromC}
 
 -- ---- the numbers
 

@@ -1,6 +1,6 @@
 -- 01, The loader and its edges: "From C the record is a byte area". Decoding what was encoded gives the session, and encoding what was
--- decoded gives the bytes (`encode-after-decode`, which `rig` needs itself and has among its own laws).
--- `recordOf` is what `rig` is proved to store, `sessionIn` and `isRecordArea` what it is proved to read.
+-- decoded gives the bytes (`encode-after-decode`, which `c_boundary` needs itself and has among its own laws).
+-- `recordOf` is what `c_boundary` is proved to store, `sessionIn` and `isRecordArea` what it is proved to read.
 use mathlib.Core.Path.{_≡_, refl, sym, ap, _∙_}
 use mathlib.Core.Bool.{true, false}
 use mathlib.Core.List.{List}
@@ -13,15 +13,15 @@ use lib.Seq.{take-all, getD-drop}
 use Rattle.octets.specs.Choice.{pick}
 use Rattle.octets.specs.Number.{bytesOf, numberAt}
 use Rattle.octets.proofs.Numbers.{number-of-bytes}
-use Rattle.standing.specs.declared.Phase.{Phase}
-use Rattle.standing.specs.declared.Phase.the-variants.{Detect, Command, Standby, Ended, Disabled}
-use Rattle.layout.specs.Layout.{form1, lengthOf, offsetOf, sumOf, tableEnd}
-use Rattle.fields.specs.Bodies.{bodiesOf}
-use Rattle.fields.specs.Fields as fields
-use Rattle.sessions.specs.declared.Session.{Session}
-use Rattle.fields.specs.FieldsArea.{fieldsAreaSize, zeroAt}
-use Rattle.rig.specs.Records.{recordSize, fieldsAt, phaseCode, lockCode, sleepOf, recordOf, phaseIn, standingIn, sessionIn, phaseFits, isRecordArea}
-use Rattle.rig.proofs.RecordAgain.{encode-after-decode}
+use Rattle.session_state.specs.declared.Phase.{Phase}
+use Rattle.session_state.specs.declared.Phase.the-variants.{Detect, Command, Standby, Ended, Disabled}
+use Rattle.settings.specs.Layout.{form1, lengthOf, offsetOf, sumOf, tableEnd}
+use Rattle.settings.specs.Bodies.{bodiesOf}
+use Rattle.settings.specs.Fields as fields
+use Rattle.session.specs.declared.Session.{Session}
+use Rattle.settings.specs.FieldsArea.{fieldsAreaSize, zeroAt}
+use Rattle.c_boundary.specs.Records.{recordSize, fieldsAt, phaseCode, lockCode, sleepOf, recordOf, phaseIn, standingIn, sessionIn, phaseFits, isRecordArea}
+use Rattle.c_boundary.proofs.RecordAgain.{encode-after-decode}
 use Rattle.claims.specs.Held.{HeldSession}
 use Rattle.claims.proofs.Settings.FieldsRule.{read-after-made, fields-size, made-unused}
 

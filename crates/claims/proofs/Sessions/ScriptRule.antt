@@ -12,7 +12,7 @@ use Rattle.octets.specs.Number.{numberOf, bytesOf, part, numberAt}
 use Rattle.octets.proofs.Numbers.{number-of-bytes, bytes-of-number, length-bytesOf}
 use Rattle.octets.proofs.Parts.{length-part, each-part}
 use Rattle.octets.proofs.Searching.{pick-true, pick-both}
-use Rattle.script.specs.Form.{scriptLimit, mostEntries, countIn, waitIn, lengthIn, lengthsIn, packetAt, packetIn, keepsForm}
+use Rattle.runner_text.specs.Form.{scriptLimit, mostEntries, countIn, waitIn, lengthIn, lengthsIn, packetAt, packetIn, keepsForm}
 use Rattle.claims.specs.MadeScript.{Entry, nothing, headsOf, packetsOf, scriptMade, Fit, Holds, entriesFrom, entriesIn}
 use Rattle.claims.proofs.Settings.HeldSettings.{number-held}
 

@@ -9,20 +9,20 @@ use lib.Dec.{eqb}
 use lib.ListN.{length, getD, take}
 use lib.Seq.{take-all}
 use Rattle.octets.specs.Number.{part, numberAt}
-use Rattle.alike.specs.Alike.{allAre}
+use Rattle.octets.specs.Alike.{allAre}
 use Rattle.octets.proofs.Parts.{length-part, parts-join}
 use Rattle.octets.proofs.Searching.{pick-both, none-passes}
-use Rattle.alike.proofs.AlikeLaws.{all-are-replicate}
+use Rattle.octets.proofs.AlikeLaws.{all-are-replicate}
 use Rattle.checksum.specs.Checksum.{checksumOf}
-use Rattle.layout.specs.Layout.{form1, offsetOf, sumOf, tableOf, placeOf, pairsOf}
-use Rattle.layout.specs.Table.{filler-from-126}
-use Rattle.layout.specs.Entries.{fieldDiffers, entryDiffers, differingEntry}
-use Rattle.layout.proofs.TableLaws.{length-table}
-use Rattle.fields.specs.Bodies.{bodiesOf, settingsIn}
+use Rattle.settings.specs.Layout.{form1, offsetOf, sumOf, tableOf, placeOf, pairsOf}
+use Rattle.settings.specs.Table.{filler-from-126}
+use Rattle.settings.specs.Entries.{fieldDiffers, entryDiffers, differingEntry}
+use Rattle.settings.proofs.TableLaws.{length-table}
+use Rattle.settings.specs.Bodies.{bodiesOf, settingsIn}
 use Rattle.settings.specs.Image.{fillerOf, frontOf, imageOf}
 use Rattle.settings.specs.Reader.{checksumDiffers, formUnknown, fillerDiffers, valueNotAllowed}
 use Rattle.claims.proofs.Settings.Pairs.{pairs-read}
-use Rattle.fields.proofs.AgainLaws.{number-again, bodies-again}
+use Rattle.settings.proofs.AgainLaws.{number-again, bodies-again}
 
 module _ (image : List ℕ) (size : length image ≡ 1024) (each : (k : ℕ) → getD image k 0 < 256)
     (checksum : checksumDiffers image ≡ false)

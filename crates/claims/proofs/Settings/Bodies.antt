@@ -6,9 +6,9 @@ use lib.ListN.{length, getD, drop}
 use Rattle.octets.specs.Number.{bytesOf, part, numberAt}
 use Rattle.octets.proofs.Numbers.{length-bytesOf, number-of-bytes}
 use Rattle.octets.proofs.Parts.{part-there, from-next}
-use Rattle.values.specs.declared.Settings.{Settings}
-use Rattle.layout.specs.Layout.{form1, offsetOf, sumOf}
-use Rattle.fields.specs.Bodies.{valuesOf, bodiesOf, shownIn, settingsIn}
+use Rattle.settings.specs.declared.Settings.{Settings}
+use Rattle.settings.specs.Layout.{form1, offsetOf, sumOf}
+use Rattle.settings.specs.Bodies.{valuesOf, bodiesOf, shownIn, settingsIn}
 use Rattle.claims.specs.Held.{Held}
 
 -- ---- settings whose bodies stand there

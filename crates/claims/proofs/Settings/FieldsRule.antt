@@ -2,12 +2,12 @@
 use mathlib.Core.Path.{_≡_, sym, _∙_}
 use mathlib.Core.List.{[], _++_, append-nil}
 use lib.ListN.{length, getD, drop}
-use Rattle.values.specs.declared.Settings.{Settings}
-use Rattle.layout.specs.Layout.{form1}
-use Rattle.fields.specs.Bodies.{bodiesOf}
-use Rattle.fields.specs.Fields.{fieldsRead}
-use Rattle.fields.proofs.BodyLaws.{length-bodies}
-use Rattle.fields.proofs.AgainLaws.{placed, from-52, unused-at-53, fields-said}
+use Rattle.settings.specs.declared.Settings.{Settings}
+use Rattle.settings.specs.Layout.{form1}
+use Rattle.settings.specs.Bodies.{bodiesOf}
+use Rattle.settings.specs.Fields.{fieldsRead}
+use Rattle.settings.proofs.BodyLaws.{length-bodies}
+use Rattle.settings.proofs.AgainLaws.{placed, from-52, unused-at-53, fields-said}
 use Rattle.claims.specs.Held.{Held}
 use Rattle.claims.proofs.Settings.Bodies.{settings-back, unused-is-zero}
 

@@ -11,9 +11,9 @@ use Rattle.octets.specs.Number.{part, numberAt}
 use Rattle.octets.proofs.Numbers.{number-fits}
 use Rattle.octets.proofs.Parts.{length-part, each-part}
 use Rattle.octets.proofs.Searching.{by-pick}
-use Rattle.layout.specs.Layout.{form1, imageSize, offsetOf, sumOf}
-use Rattle.layout.specs.Entries.{differingEntry}
-use Rattle.fields.specs.Bodies.{shownIn, settingsIn}
+use Rattle.settings.specs.Layout.{form1, imageSize, offsetOf, sumOf}
+use Rattle.settings.specs.Entries.{differingEntry}
+use Rattle.settings.specs.Bodies.{shownIn, settingsIn}
 use Rattle.settings.specs.Answers.{ReadTold}
 use Rattle.settings.specs.Reader.{isBlank, checksumDiffers, formUnknown, fillerDiffers, valueNotAllowed, readWritten, readOf}
 use Rattle.claims.specs.Held.{Bytes, Held}

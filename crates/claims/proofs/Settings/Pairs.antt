@@ -7,7 +7,7 @@ use lib.ListN.{length, getD, take}
 use Rattle.octets.specs.Number.{numberOf, bytesOf, numberAt}
 use Rattle.octets.proofs.Numbers.{bytes-of-number, each-bytesOf}
 use Rattle.octets.proofs.Parts.{each-none, each-cons, each-append}
-use Rattle.layout.specs.Layout.{pairsOf}
+use Rattle.settings.specs.Layout.{pairsOf}
 
 pub pairs-at : (numbers rest : List ℕ) → ((i : ℕ) → i < length numbers → getD numbers i 0 < 65536) → (i : ℕ) → i < length numbers
     → numberAt (2 * i) 2 (pairsOf numbers ++ rest) ≡ getD numbers i 0

@@ -10,15 +10,15 @@ use borrow.Author.Tests.{eq-eqb, eqb-true, not-false}
 use lib.Dec.{eqb}
 use lib.ListN.{length, getD, replicate}
 use Rattle.octets.specs.Choice.{pick}
-use Rattle.alike.specs.Alike.{allAre}
+use Rattle.octets.specs.Alike.{allAre}
 use Rattle.octets.proofs.Parts.{each-replicate}
 use Rattle.octets.proofs.Searching.{pick-both, pick-false}
-use Rattle.alike.proofs.AlikeLaws.{replicate-all-are}
-use Rattle.values.specs.declared.Settings.{Settings}
-use Rattle.layout.specs.Layout.{form1, imageSize}
-use Rattle.layout.specs.Entries.{differingEntry}
-use Rattle.fields.specs.Bodies.{settingsIn}
-use Rattle.values.specs.Values.{isAllowed, blankSettings, noSettings}
+use Rattle.octets.proofs.AlikeLaws.{replicate-all-are}
+use Rattle.settings.specs.declared.Settings.{Settings}
+use Rattle.settings.specs.Layout.{form1, imageSize}
+use Rattle.settings.specs.Entries.{differingEntry}
+use Rattle.settings.specs.Bodies.{settingsIn}
+use Rattle.settings.specs.Values.{isAllowed, blankSettings, noSettings}
 use Rattle.settings.specs.Image.{imageOf}
 use Rattle.settings.specs.Answers.{ReadTold, accepted, refused, refusedAt, writeLeft}
 use Rattle.settings.specs.Reader.{isBlank, checksumDiffers, formUnknown, fillerDiffers, valueNotAllowed, readWritten, readOf}

@@ -11,21 +11,21 @@ use lib.ListN.{length, getD, replicate, length-append}
 use Rattle.octets.specs.Choice.{pick}
 use Rattle.octets.proofs.Parts.{each-append, each-replicate}
 use Rattle.octets.proofs.Searching.{pick-true, by-pick}
-use Rattle.values.specs.declared.Settings.{Settings}
-use Rattle.values.specs.Values.{isAllowed, noSettings}
-use Rattle.layout.specs.Layout.{form1, imageSize}
-use Rattle.layout.specs.Table.{filler-from-126}
-use Rattle.fields.specs.Bodies.{bodiesOf}
-use Rattle.fields.specs.Fields.{fieldsSize, fieldsRead}
-use Rattle.fields.specs.FieldsArea.{fieldsAreaSize, zeroAt}
-use Rattle.fields.proofs.AgainLaws.{made-after-read}
+use Rattle.settings.specs.declared.Settings.{Settings}
+use Rattle.settings.specs.Values.{isAllowed, noSettings}
+use Rattle.settings.specs.Layout.{form1, imageSize}
+use Rattle.settings.specs.Table.{filler-from-126}
+use Rattle.settings.specs.Bodies.{bodiesOf}
+use Rattle.settings.specs.Fields.{fieldsSize, fieldsRead}
+use Rattle.settings.specs.FieldsArea.{fieldsAreaSize, zeroAt}
+use Rattle.settings.proofs.AgainLaws.{made-after-read}
 use Rattle.settings.specs.Image.{imageOf}
 use Rattle.settings.specs.Answers.{Numbered, numbered, ReadTold, WriteLeft}
 use Rattle.settings.specs.Reader.{isBlank, readOf}
 use Rattle.settings.specs.Writer.{writeOf}
-use Rattle.numbers.specs.OneNumber.{refusal, refusalOf}
-use Rattle.numbers.specs.Stored.{Stored, stored, storedBy}
-use Rattle.rig_offline.specs.SettingsFromC.{readFromC, writeFromC}
+use Rattle.c_boundary.specs.OneNumber.{refusal, refusalOf}
+use Rattle.c_boundary.specs.Stored.{Stored, stored, storedBy}
+use Rattle.c_boundary.specs.SettingsFromC.{readFromC, writeFromC}
 use Rattle.claims.specs.Held.{Held}
 use Rattle.claims.proofs.Settings.Written.{image-reads}
 use Rattle.claims.proofs.Settings.SettingsRule.{write-after-read}

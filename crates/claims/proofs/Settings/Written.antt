@@ -10,22 +10,22 @@ use lib.ListN.{length, getD, take, drop, length-append, length-replicate}
 use lib.Seq.{take-at, drop-at, take-all}
 use Rattle.octets.specs.Choice.{pick}
 use Rattle.octets.specs.Number.{numberOf, bytesOf, numberAt}
-use Rattle.alike.specs.Alike.{allAre}
+use Rattle.octets.specs.Alike.{allAre}
 use Rattle.octets.proofs.Numbers.{length-bytesOf, number-of-bytes, each-bytesOf}
 use Rattle.octets.proofs.Parts.{part-there, each-none, each-cons, each-append, each-replicate}
 use Rattle.octets.proofs.Searching.{pick-both, none-found}
-use Rattle.alike.proofs.AlikeLaws.{replicate-all-are}
+use Rattle.octets.proofs.AlikeLaws.{replicate-all-are}
 use Rattle.octets.proofs.Table.{test-at}
 use Rattle.checksum.specs.Checksum.{checksumOf}
 use Rattle.checksum.proofs.Laws.{checksum-of-fits}
-use Rattle.values.specs.declared.Shown.{Shown}
-use Rattle.values.specs.declared.Settings.{Settings}
-use Rattle.layout.specs.Layout.{form1, bodiesEnd, offsetOf, sumOf, tableOf, placeOf, pairsOf}
-use Rattle.layout.specs.Table.{tableOf01, layout-gives-table, filler-from-126}
-use Rattle.layout.specs.Entries.{fieldDiffers, entryDiffers, differingEntry}
-use Rattle.layout.proofs.TableLaws.{length-table, length-pairs}
-use Rattle.fields.specs.Bodies.{valuesOf, numbersOf, bodiesOf}
-use Rattle.values.specs.Values.{isAllowed}
+use Rattle.settings.specs.declared.Shown.{Shown}
+use Rattle.settings.specs.declared.Settings.{Settings}
+use Rattle.settings.specs.Layout.{form1, bodiesEnd, offsetOf, sumOf, tableOf, placeOf, pairsOf}
+use Rattle.settings.specs.Table.{tableOf01, layout-gives-table, filler-from-126}
+use Rattle.settings.specs.Entries.{fieldDiffers, entryDiffers, differingEntry}
+use Rattle.settings.proofs.TableLaws.{length-table, length-pairs}
+use Rattle.settings.specs.Bodies.{valuesOf, numbersOf, bodiesOf}
+use Rattle.settings.specs.Values.{isAllowed}
 use Rattle.settings.specs.Image.{fillerOf, frontOf, imageOf}
 use Rattle.settings.specs.Answers.{accepted}
 use Rattle.settings.specs.Reader.{checksumDiffers, formUnknown, fillerDiffers, valueNotAllowed, readWritten, readOf}

@@ -12,10 +12,10 @@ use Rattle.octets.proofs.Numbers.{number-of-bytes}
 use Rattle.octets.proofs.Parts.{part-there, from-next}
 use Rattle.checksum.specs.Checksum.{checksumOf}
 use Rattle.checksum.proofs.Laws.{checksum-of-fits}
-use Rattle.wire.specs.Codes.{lengthLimit, acknowledged, rate}
-use Rattle.wire.specs.Packet.{lengthIn, coreIn, codeIn}
-use Rattle.wire.specs.Acknowledgement.{acknowledgement}
-use Rattle.packets.proofs.AcknowledgementLaws.{framed-is-acknowledged}
+use Rattle.line.specs.Codes.{lengthLimit, acknowledged, rate}
+use Rattle.line.specs.Packet.{lengthIn, coreIn, codeIn}
+use Rattle.line.specs.Acknowledgement.{acknowledgement}
+use Rattle.line.proofs.AcknowledgementLaws.{framed-is-acknowledged}
 use Rattle.claims.specs.Trials.{packetOf}
 
 -- a packet has bytes

@@ -7,23 +7,23 @@ use native.Mathlib.Omega.{arith}
 use lib.ListN.{getD, replicate}
 use Rattle.octets.specs.Choice.{pick}
 use Rattle.octets.specs.Number.{bytesOf}
-use Rattle.layout.specs.Layout.{tableOf, pairsOf}
+use Rattle.settings.specs.Layout.{tableOf, pairsOf}
 use Rattle.settings.specs.Image.{imageOf}
-use Rattle.wire.specs.Codes.{success, passwordWrong}
-use Rattle.replies.specs.declared.Reply.the-variants.{Message}
-use Rattle.standing.specs.declared.Standing.{Standing}
-use Rattle.standing.specs.Phases.{isUnlocked}
-use Rattle.values.specs.Values.{blankSettings}
+use Rattle.line.specs.Codes.{success, passwordWrong}
+use Rattle.line.specs.declared.Reply.the-variants.{Message}
+use Rattle.session_state.specs.declared.Standing.{Standing}
+use Rattle.session_state.specs.Phases.{isUnlocked}
+use Rattle.settings.specs.Values.{blankSettings}
 use Rattle.claims.specs.TwoBoards.{Images, started, AlikeBoards, WithoutPassword, replied}
 use Rattle.claims.specs.Visits.{AllWithout, visitOne}
 use Rattle.claims.specs.Trials.{blankBoard, writtenBoard, quietBoard, resetBoard, strictBoard, guardedBoard, Differ, secondFF, allFF, connects, unlocks, twoGuesses, threeGuesses, guesser, ran, toBlankPassword}
-use Rattle.decisions.specs.Judgement.{says}
-use Rattle.decisions.specs.Unlocking.{afterRight, countedUp, afterWrong, asleep, triedWrong, tried}
-use Rattle.act.specs.Board.{sectorSize}
-use Rattle.loader.specs.Answers.{Left}
-use Rattle.alike.specs.Alike.{areSame}
-use Rattle.loader.specs.Calling.{carriedOut}
-use Rattle.alike.proofs.AlikeLaws.{equal-are-same}
+use Rattle.session_judge.specs.Judgement.{says}
+use Rattle.session_judge.specs.Unlocking.{afterRight, countedUp, afterWrong, asleep, triedWrong, tried}
+use Rattle.session_act.specs.Board.{sectorSize}
+use Rattle.session.specs.CallAnswers.{Left}
+use Rattle.octets.specs.Alike.{areSame}
+use Rattle.session.specs.Calling.{carriedOut}
+use Rattle.octets.proofs.AlikeLaws.{equal-are-same}
 use Rattle.claims.proofs.Secrecy.LockedBoard.{sessionThen, later}
 use Rattle.claims.proofs.Trials.SomePackets.{stood}
 use Rattle.claims.proofs.Trials.SomeBoards.{blank-is-good, quiet-is-good, reset-is-good, blank-and-quiet-are-alike, blank-and-quiet-differ, reset-are-alike, reset-differ}

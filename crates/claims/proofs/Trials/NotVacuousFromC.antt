@@ -4,8 +4,8 @@ use mathlib.Core.List.{List}
 use Prim.Native.Nat.{ℕ, _≤_, _<_}
 use native.Mathlib.Omega.{arith}
 use lib.ListN.{length}
-use Rattle.decisions.specs.Unlocking.{alertReset}
-use Rattle.rig.specs.Records.{recordSize}
+use Rattle.session_judge.specs.Unlocking.{alertReset}
+use Rattle.c_boundary.specs.Records.{recordSize}
 use Rattle.claims.specs.TwoBoards.{Sending}
 use Rattle.claims.specs.TwoBoardsFromC.{Lent, AlikeSessionsFromC}
 use Rattle.claims.specs.Trials.{chosen, writtenBoard, resetBoard, strictBoard, guardedBoard}

@@ -9,15 +9,15 @@ use lib.ListN.{length, getD, replicate, length-replicate}
 use Rattle.octets.specs.Choice.{pick}
 use Rattle.octets.specs.Number.{numberOf}
 use Rattle.octets.proofs.Parts.{each-cons, each-replicate}
-use Rattle.values.specs.declared.Settings.{Settings}
-use Rattle.values.specs.Values.{isAllowed, blankSettings}
-use Rattle.layout.specs.Layout.{form1}
+use Rattle.settings.specs.declared.Settings.{Settings}
+use Rattle.settings.specs.Values.{isAllowed, blankSettings}
+use Rattle.settings.specs.Layout.{form1}
 use Rattle.settings.specs.Answers.{ReadTold, accepted}
 use Rattle.settings.specs.Reader.{readOf}
-use Rattle.decisions.specs.Unlocking.{alertReset}
-use Rattle.info.specs.Info.{versionAt}
-use Rattle.regions.specs.Regions.{isMainSize}
-use Rattle.sessions.specs.Starting.{startRead, startOf}
+use Rattle.session_judge.specs.Unlocking.{alertReset}
+use Rattle.session_act.specs.Info.{versionAt}
+use Rattle.flash.specs.Regions.{isMainSize}
+use Rattle.session.specs.Starting.{startRead, startOf}
 use Rattle.claims.specs.Held.{Held}
 use Rattle.claims.specs.TwoBoards.{Images, settingsOf, AlikeBoards}
 use Rattle.claims.specs.Trials.{mainSize, blankBoard, chosen, writtenBoard, quietBoard, resetBoard, Differ}

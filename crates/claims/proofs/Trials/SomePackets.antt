@@ -8,17 +8,17 @@ use lib.ListN.{replicate}
 use Rattle.octets.specs.Choice.{pick}
 use Rattle.octets.specs.Number.{numberOf, bytesOf}
 use Rattle.octets.proofs.Parts.{each-none, each-cons, each-replicate}
-use Rattle.wire.specs.declared.Command.the-variants as command
-use Rattle.wire.specs.Codes.{acknowledged, connect, unlock, isOneOf}
-use Rattle.wire.specs.Packet.{coreIn}
-use Rattle.wire.specs.Acknowledgement.{acknowledgement}
-use Rattle.wire.specs.Commands.{lengthFits, openOf, commandOf}
-use Rattle.standing.specs.declared.Phase.the-variants.{Command}
-use Rattle.standing.specs.declared.Standing.{Standing}
-use Rattle.standing.specs.Phases.{rateIdAtStart, mostSleep, atStart}
-use Rattle.waits.specs.Waits.{isIdleTooLong, detectIdles, commandIdles, passTime}
-use Rattle.decisions.specs.Unlocking.{countedUp, alertReset, alerted, triedWrong, tried}
-use Rattle.judge.specs.Hearing.{stirred, heardInDetect, heardInCommand, heardAfter, judgedOf}
+use Rattle.line.specs.declared.Command.the-variants as command
+use Rattle.line.specs.Codes.{acknowledged, connect, unlock, isOneOf}
+use Rattle.line.specs.Packet.{coreIn}
+use Rattle.line.specs.Acknowledgement.{acknowledgement}
+use Rattle.line.specs.Commands.{lengthFits, openOf, commandOf}
+use Rattle.session_state.specs.declared.Phase.the-variants.{Command}
+use Rattle.session_state.specs.declared.Standing.{Standing}
+use Rattle.session_state.specs.Phases.{rateIdAtStart, mostSleep, atStart}
+use Rattle.session_state.specs.Waits.{isIdleTooLong, detectIdles, commandIdles, passTime}
+use Rattle.session_judge.specs.Unlocking.{countedUp, alertReset, alerted, triedWrong, tried}
+use Rattle.session_judge.specs.Hearing.{stirred, heardInDetect, heardInCommand, heardAfter, judgedOf}
 use Rattle.claims.specs.Trials.{connects, unlocks}
 use Rattle.claims.proofs.Trials.Framing.{never-empty, core-there, framed}
 

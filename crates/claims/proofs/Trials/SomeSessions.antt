@@ -10,32 +10,32 @@ use lib.Seq.{take-all, take-append-seam}
 use Rattle.octets.specs.Choice.{pick}
 use Rattle.octets.specs.Number.{bytesOf}
 use Rattle.octets.proofs.Parts.{parts-join}
-use Rattle.wire.specs.Codes.{replyLimit, unlock, isOneOf}
-use Rattle.wire.specs.Packet.{coreIn}
-use Rattle.packets.proofs.PacketLaws.{unlock-is-password}
-use Rattle.replies.specs.declared.Reply.{Reply}
-use Rattle.replies.specs.declared.Reply.the-variants.{Message}
-use Rattle.replies.specs.Replies.{replyBytes, Sent}
-use Rattle.replies.proofs.ReplyLaws.{message-bytes}
-use Rattle.standing.specs.declared.Standing.{Standing}
-use Rattle.standing.specs.Phases.{mostSleep, atStart}
-use Rattle.values.specs.declared.Settings.{Settings}
+use Rattle.line.specs.Codes.{replyLimit, unlock, isOneOf}
+use Rattle.line.specs.Packet.{coreIn}
+use Rattle.line.proofs.PacketLaws.{unlock-is-password}
+use Rattle.line.specs.declared.Reply.{Reply}
+use Rattle.line.specs.declared.Reply.the-variants.{Message}
+use Rattle.line.specs.Replies.{replyBytes, Sent}
+use Rattle.line.proofs.ReplyLaws.{message-bytes}
+use Rattle.session_state.specs.declared.Standing.{Standing}
+use Rattle.session_state.specs.Phases.{mostSleep, atStart}
+use Rattle.settings.specs.declared.Settings.{Settings}
 use Rattle.settings.specs.Answers.{ReadTold}
-use Rattle.regions.specs.Memory.{Memory, memory}
-use Rattle.sectors.specs.Protection.{isProtected, mayChange}
-use Rattle.sectors.specs.Erasing.{eraseAllOf}
-use Rattle.sectors.proofs.ErasingLaws.{erase-all-keeps-length, erase-all-of-open, erase-all-of-protected, erase-all-in-one-sector}
-use Rattle.decisions.specs.declared.Effect.the-variants.{Say}
-use Rattle.decisions.specs.Judgement.{says}
-use Rattle.decisions.specs.Unlocking.{alertReset, tried}
-use Rattle.judge.specs.Hearing.{judgedOf}
-use Rattle.act.specs.Board.{sectorSize, settingsProtection}
-use Rattle.sending.specs.Answering.{hushed}
-use Rattle.sending.proofs.AnsweringLaws.{others-are-told, answer-is-whole}
-use Rattle.sessions.specs.declared.Session.{Session}
-use Rattle.alike.specs.Alike.{areSame}
-use Rattle.loader.specs.Calling.{carriedOut, serveOf}
-use Rattle.loader.proofs.RecordLaws.{record-by-clauses}
+use Rattle.flash.specs.Memory.{Memory, memory}
+use Rattle.flash.specs.Protection.{isProtected, mayChange}
+use Rattle.flash.specs.Erasing.{eraseAllOf}
+use Rattle.flash.proofs.ErasingLaws.{erase-all-keeps-length, erase-all-of-open, erase-all-of-protected, erase-all-in-one-sector}
+use Rattle.session_judge.specs.declared.Effect.the-variants.{Say}
+use Rattle.session_judge.specs.Judgement.{says}
+use Rattle.session_judge.specs.Unlocking.{alertReset, tried}
+use Rattle.session_judge.specs.Hearing.{judgedOf}
+use Rattle.session_act.specs.Board.{sectorSize, settingsProtection}
+use Rattle.session_send.specs.Answering.{hushed}
+use Rattle.session_send.proofs.AnsweringLaws.{others-are-told, answer-is-whole}
+use Rattle.session.specs.declared.Session.{Session}
+use Rattle.octets.specs.Alike.{areSame}
+use Rattle.session.specs.Calling.{carriedOut, serveOf}
+use Rattle.session.proofs.RecordLaws.{record-by-clauses}
 use Rattle.claims.specs.TwoBoards.{Images, Running, settingsOf, started, Carries, Sending, called, next, replied, isStruck}
 use Rattle.claims.specs.Trials.{mainSize, chosen, resetBoard, strictBoard, guardedBoard, secondFF, allFF, connects, unlocks, twoGuesses, threeGuesses, ran}
 use Rattle.claims.proofs.Sessions.CallRules.{valid-is-served, started-is-valid}

@@ -1,6 +1,6 @@
 -- `settings::reader::filler_differs` meets its contract: every byte from the end of the bodies up to the checksum is looked at.
 use borrow.Author.Needs.{needs}
-use Rattle.layout.specs.Table.{filler-from-126}
+use Rattle.settings.specs.Table.{filler-from-126}
 use Rattle.settings.specs.Reader.{fillerDiffers}
 use Rattle.settings.proofs.reader.filler_differs.Statement.{statement}
 use Rattle.settings.proofs.reader.filler_differs.Tie as tie

@@ -6,11 +6,11 @@ use native.Mathlib.Omega.{arith}
 use borrow.Author.Needs.{needs}
 use lib.ListN.{getD}
 use Rattle.octets.specs.Choice.{pick}
-use Rattle.layout.specs.Layout.{form1}
-use Rattle.values.specs.declared.Settings.{Settings}
-use Rattle.fields.specs.Bodies.{settingsIn}
-use Rattle.fields.specs.Fields.{fieldsRead}
-use Rattle.fields.proofs.BodyLaws.{fields-there, zero-there}
+use Rattle.settings.specs.Layout.{form1}
+use Rattle.settings.specs.declared.Settings.{Settings}
+use Rattle.settings.specs.Bodies.{settingsIn}
+use Rattle.settings.specs.Fields.{fieldsRead}
+use Rattle.settings.proofs.BodyLaws.{fields-there, zero-there}
 use Rattle.settings.proofs.ReaderLaws.{bodies-judged}
 use Rattle.settings.proofs.reader.read_bodies.Statement.{statement}
 use Rattle.settings.proofs.reader.read_bodies.Tie as tie

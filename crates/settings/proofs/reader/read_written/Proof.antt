@@ -2,7 +2,7 @@
 use borrow.Author.Needs.{needs}
 use borrow.Author.Tests.{eq-eqb, ne-eqb}
 use Rattle.octets.specs.Choice.{pick}
-use Rattle.layout.specs.Layout.{form1}
+use Rattle.settings.specs.Layout.{form1}
 use Rattle.settings.specs.Reader.{readWritten}
 use Rattle.settings.proofs.ReaderLaws.{differing-entry-there}
 use Rattle.settings.proofs.reader.read_written.Statement.{statement}

@@ -1,7 +1,7 @@
 -- `settings::writer::put_filler` meets its contract: the part from the end of the bodies up to the checksum.
 use native.Mathlib.Omega.{arith}
 use borrow.Author.Needs.{needs}
-use Rattle.layout.specs.Table.{filler-from-126}
+use Rattle.settings.specs.Table.{filler-from-126}
 use Rattle.settings.proofs.WriterLaws.{filler-put}
 use Rattle.settings.proofs.writer.put_filler.Statement.{statement}
 use Rattle.settings.proofs.writer.put_filler.Tie as tie

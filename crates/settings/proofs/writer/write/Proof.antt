@@ -4,7 +4,7 @@ use borrow.Author.Needs.{needs}
 use borrow.Author.Tests.{eq-eqb, ne-eqb, not-true, not-false}
 use lib.ListN.{length}
 use Rattle.octets.specs.Choice.{pick}
-use Rattle.layout.specs.Layout.{form1}
+use Rattle.settings.specs.Layout.{form1}
 use Rattle.settings.specs.Image.{frontOf, imageOf}
 use Rattle.settings.specs.Answers.{writeLeft}
 use Rattle.settings.specs.Writer.{writeOf}

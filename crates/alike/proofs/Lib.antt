@@ -1,2 +1,0 @@
--- AlikeLaws: what the comparisons say, byte by byte and of all.
-pub mod AlikeLaws

@@ -1,0 +1,5 @@
+-- What the proofs share, the lowest first.
+-- RecordLaws: stored piece by piece, the pieces make a record.
+pub mod RecordLaws
+-- RecordAgain: of the session that an area says, the same bytes are made again.
+pub mod RecordAgain

@@ -1,0 +1,11 @@
+-- What is right, in reading order; each definition of a rule names its sentence of document 01.
+-- OneNumber: one number comes back.
+pub mod OneNumber
+-- Stored: an answer beside the area that something was to be stored into.
+pub mod Stored
+-- Records: a session as bytes, and bytes as a session.
+pub mod Records
+-- Boundary: what each function leaves.
+pub mod Boundary
+-- SettingsFromC: what the settings reader and the settings writer leave.
+pub mod SettingsFromC

@@ -1,5 +1,0 @@
--- Laws of lines.
--- DigitLaws: the sizes of digits, and that they join.
-pub mod DigitLaws
--- LineLaws: the sizes of lines, and that their pieces join.
-pub mod LineLaws

@@ -1,7 +1,0 @@
--- Laws of a session and its calls.
--- RecordLaws: what a valid record is, clause by clause.
-pub mod RecordLaws
--- ToldLaws: what was done is told whole.
-pub mod ToldLaws
--- CallLaws: what holds of every call.
-pub mod CallLaws

@@ -1,5 +1,0 @@
--- Laws of the boundary.
--- RecordLaws: stored piece by piece, the pieces make a record.
-pub mod RecordLaws
--- RecordAgain: of the session that an area says, the same bytes are made again.
-pub mod RecordAgain

@@ -1,0 +1,43 @@
+-- What a valid record is, clause by clause.
+use mathlib.Core.Path.{_≡_, _∙_}
+use mathlib.Core.Bool.{true}
+use Prim.Native.Nat.{ℕ}
+use borrow.Author.Tests.{eq-eqb, eqb-true}
+use Rattle.octets.proofs.Searching.{pick-true, pick-both}
+use Rattle.session_state.specs.Phases.{isValid}
+use Rattle.settings.specs.Values.{isAllowed}
+use Rattle.settings.specs.Layout.{imageSize}
+use Rattle.flash.specs.Regions.{isMainSize}
+use Rattle.session.specs.declared.Session.{Session}
+use Rattle.session.specs.Records.{isRecord}
+
+-- the clauses of 10, each by itself
+pub record Valid (session : Session) (mainLent settingsLent : ℕ) : Type 0 where
+  pub standing : isValid (session .standing) ≡ true
+  pub values : isAllowed (session .settings .shown) ≡ true
+  pub mainSize : isMainSize (session .«main_size») ≡ true
+  pub settings : settingsLent ≡ imageSize
+  pub main : mainLent ≡ session .«main_size»
+
+pub record-by-clauses : (session : Session) (mainLent settingsLent : ℕ)
+    → isRecord session mainLent settingsLent ≡ true → Valid session mainLent settingsLent
+unfolding isRecord
+record-by-clauses session mainLent settingsLent h =
+    let standing = pick-both _ _ h in
+    let values = pick-both _ _ (standing .1) in
+    let size = pick-both _ _ (values .1) in
+    let lent = pick-both _ _ (size .1) in
+    record {
+      standing = standing .0;
+      values = values .0;
+      mainSize = size .0;
+      settings = eqb-true _ _ (lent .0);
+      main = eqb-true _ _ (lent .1);
+    }
+
+pub clauses-make-record : (session : Session) (mainLent settingsLent : ℕ)
+    → Valid session mainLent settingsLent → isRecord session mainLent settingsLent ≡ true
+unfolding isRecord
+clauses-make-record session mainLent settingsLent v =
+    pick-true _ _ (v .standing) ∙ pick-true _ _ (v .values) ∙ pick-true _ _ (v .mainSize)
+    ∙ pick-true _ _ (eq-eqb _ _ (v .settings)) ∙ eq-eqb _ _ (v .main)

@@ -1,0 +1,24 @@
+-- `session::passwords::unlocks` meets its contract: a packet that is no Unlock is judged alike, and an Unlock is compared.
+use mathlib.Core.Path.{sym, _∙_}
+use borrow.Author.Needs.{needs}
+use Rattle.session_judge.proofs.StrangerLaws.{others-are-not-compared}
+use Rattle.session.proofs.passwords.unlocks.Statement.{statement}
+use Rattle.session.proofs.passwords.unlocks.Tie as tie
+
+returns : tie.Need-returns
+returns c standing alert wait =
+    let read = c .before in
+    sym (others-are-not-compared _ (λ e. c .if1 .taken (read .byte-at .ensures ∙ e)) standing alert wait _)
+
+returns-2 : tie.Need-returns-2
+returns-2 c standing alert wait = rw (c .are-same .ensures, c .before .part-of .ensures)
+
+pub unlocks-spec : {M : Type 1} → statement M
+unlocks-spec =
+    tie.close
+    (tie.spec
+    (λ c κs. search needs)
+    returns
+    (λ c κs. search needs)
+    (λ c κs. search needs)
+    returns-2)

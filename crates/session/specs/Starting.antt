@@ -1,0 +1,42 @@
+-- 01, Phases and waits, Start; Numbers of refused calls, "Start checks 1-8".
+use Prim.Native.Nat.{ℕ}
+use mathlib.Core.Bool.{Bool, not}
+use mathlib.Core.List.{List}
+use lib.Dec.{eqb}
+use lib.ListN.{length}
+use Rattle.octets.specs.Choice.{pick}
+use Rattle.session_state.specs.Phases.{atStart}
+use Rattle.settings.specs.declared.Settings.{Settings}
+use Rattle.settings.specs.Values.{noSettings}
+use Rattle.settings.specs.Layout.{form1}
+use Rattle.settings.specs.Answers.{ReadTold, numbered}
+use Rattle.settings.specs.Reader.{readOf}
+use Rattle.session.specs.declared.Session.{Session}
+use Rattle.flash.specs.Regions.{isMainSize}
+use Rattle.session.specs.StartAnswers.{StartTold}
+
+-- "Start gives detect, idle 0, sleep 0, wrong count 0, rate id 2. Settings are taken at start; later writes to the settings flash count from
+-- the next start."
+abbrev pub sessionOf : ℕ → Settings → Session
+sessionOf mainSize settings = record { standing = atStart; «main_size» = mainSize; settings = settings }
+
+-- what stands beside a refusal: no valid record, so that every call refuses it
+abbrev pub noSession : Session
+noSession = sessionOf 0 noSettings
+
+abbrev pub startRefused : ℕ → ℕ → StartTold
+startRefused number entry = record { answer = numbered number entry; session = noSession }
+
+-- 3 to 8, as the settings reader has them
+unfoldable pub startRead : ℕ → ReadTold → StartTold
+startRead mainSize told =
+    pick (eqb (told .number) 0)
+    (record { answer = numbered 0 0; session = sessionOf mainSize (told .settings) })
+    (startRefused (told .number) (told .entry))
+
+-- "1 the board's disabled fuse is set; 2 MAIN size outside the rule", then 3 to 8
+unfoldable pub startOf : Bool → List ℕ → List ℕ → StartTold
+startOf fuse main settings =
+    pick fuse (startRefused 1 0)
+    (pick (not (isMainSize (length main))) (startRefused 2 0)
+    (startRead (length main) (readOf form1 settings)))

@@ -1,0 +1,113 @@
+// One call of a session: check the record, judge the packet, act on memory, answer.
+ghost use mathlib.Core.Path.{_≡_};
+ghost use Rattle.flash.specs.Memory.{memory};
+ghost use Rattle.session_act.specs.Board.{acted};
+ghost use Rattle.session.specs.CallAnswers.{callTold, callNumbered, callLeft};
+ghost use Rattle.session.specs.Calling.{standsThen, judgement, deed, serveOf, callOf};
+use crate::CallAnswer;
+use crate::Called;
+use crate::Session;
+use crate::passwords;
+use crate::records;
+use line::Reply;
+use line::codes;
+use session_judge::Effect;
+use session_judge::Judged;
+
+// The packet is judged; of the password the judge hears only whether the packet carries it.
+fn judge_packet(session: Session, wait: u32, packet: &[u8]) -> Judged
+    ensures { λ r. ⌜ r ≡ judgement session wait (now (packet .entry)) ⌝ }
+{
+    let settings = session.settings;
+    let right = passwords::unlocks(&settings.password, packet);
+    session_judge::judge(session.standing, settings.shown.alert, wait, packet, right)
+}
+
+// What was decided is done to memory. Most packets are only answered, and nothing is to be done.
+fn act_on(
+    effect: Effect,
+    session: Session,
+    packet: &[u8],
+    main: &mut [u8],
+    image: &mut [u8],
+) -> Reply
+    ensures { λ r. ⌜ acted r (memory (now (main .exit)) (now (image .exit))) ≡ deed session (now (packet .entry)) (memory (now (main .entry)) (now (image .entry))) effect ⌝ }
+{
+    if let Effect::Say(reply) = effect {
+        return reply;
+    }
+    let settings = session.settings;
+    let right = passwords::resets(effect, &settings.reset_password, packet);
+    session_act::act(
+        effect,
+        settings.shown,
+        &settings.protection,
+        session.main_size,
+        right,
+        packet,
+        main,
+        image,
+    )
+}
+
+// What a call answers where it is not refused, and the session for the next call: it keeps its MAIN size and its settings.
+fn served(session: Session, judged: Judged, size: usize) -> Called
+    ensures { λ r. ⌜ (callNumbered (r .answer) ≡ callTold 0 size (judged .burn)) × (r .session ≡ standsThen session (judged .standing)) ⌝ }
+{
+    let burn = judged.burn;
+    let standing = judged.standing;
+    let settings = session.settings;
+    Called {
+        answer: CallAnswer::Done { size, burn },
+        session: Session {
+            standing,
+            main_size: session.main_size,
+            settings,
+        },
+    }
+}
+
+// A call with a valid record and a large enough area.
+fn serve(
+    session: Session,
+    main: &mut [u8],
+    image: &mut [u8],
+    wait: u32,
+    packet: &[u8],
+    area: &mut [u8],
+) -> Called
+    ensures { λ r. ⌜ callLeft r (memory (now (main .exit)) (now (image .exit))) (now (area .exit)) ≡ serveOf session (memory (now (main .entry)) (now (image .entry))) wait (now (packet .entry)) (now (area .entry)) ⌝ }
+{
+    let judged = judge_packet(session, wait, packet);
+    let effect = judged.effect;
+    let reply = act_on(effect, session, packet, main, image);
+    let size = session_send::answer(effect, reply, packet, session.main_size, main, image, area);
+    served(session, judged, size)
+}
+
+// A call: so many milliseconds after the one before came a packet, perhaps empty. The reply is written to the start of the area.
+// A call that is refused changes nothing, and the session is the one that was given.
+pub fn call(
+    session: Session,
+    main: &mut [u8],
+    image: &mut [u8],
+    wait: u32,
+    packet: &[u8],
+    area: &mut [u8],
+) -> Called
+    ensures { λ r. ⌜ callLeft r (memory (now (main .exit)) (now (image .exit))) (now (area .exit)) ≡ callOf session (memory (now (main .entry)) (now (image .entry))) wait (now (packet .entry)) (now (area .entry)) ⌝ }
+{
+    if area.len() < codes::REPLY_LIMIT {
+        return Called {
+            answer: CallAnswer::ReplyAreaTooSmall,
+            session,
+        };
+    }
+    if !records::is_record(session, main.len(), image.len()) {
+        return Called {
+            answer: CallAnswer::RecordNotValid,
+            session,
+        };
+    }
+    serve(session, main, image, wait, packet, area)
+}

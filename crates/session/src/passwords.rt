@@ -1,0 +1,47 @@
+// The password comparisons: that of Unlock, and that of Factory reset. A password is compared only where it is asked for; then
+// every byte is looked at, also after one that differs (`octets::comparing::are_same`). That is to be read there: no promise says
+// how a comparison is made, or how long it takes.
+ghost use mathlib.Core.Path.{_≡_};
+ghost use Prim.Native.Nat.{ℕ};
+ghost use Rattle.octets.specs.Alike.{areSame};
+ghost use Rattle.line.specs.Packet.{passwordIn, resetPasswordIn};
+ghost use Rattle.session_state.specs.declared.Standing.{Standing};
+ghost use Rattle.session_judge.specs.Hearing.{judgedOf};
+ghost use Rattle.flash.specs.Memory.{Memory};
+ghost use Rattle.session_act.specs.Board.{Board};
+ghost use Rattle.session_act.specs.Acting.{actOf};
+use line::CORE_AT;
+use line::FIRST_AT;
+use line::Guarded;
+use line::codes;
+use session_judge::Effect;
+
+const PASSWORD_SIZE: usize = 32;
+
+const RESET_PASSWORD_SIZE: usize = 16;
+
+// The bit of which the judge hears: whether an Unlock carries the password. Of another packet it is judged alike.
+pub(crate) fn unlocks(password: &[u8], packet: &[u8]) -> bool
+    ensures { λ r. ⌜ ((standing : Standing) (alert wait : ℕ) → judgedOf standing alert wait (now (packet .entry)) r ≡ judgedOf standing alert wait (now (packet .entry)) (areSame (now (password .entry)) (passwordIn (now (packet .entry))))) ⌝ }
+{
+    if octets::byte_at(packet, CORE_AT) != codes::UNLOCK {
+        return false;
+    }
+    octets::are_same(password, octets::part_of(packet, FIRST_AT, PASSWORD_SIZE))
+}
+
+// The bit of which the act hears: whether a Factory reset carries the reset password. Any other effect is done alike.
+pub(crate) fn resets(effect: Effect, password: &[u8], packet: &[u8]) -> bool
+    ensures { λ r. ⌜ ((board : Board) (before : Memory) → actOf board r (now (packet .entry)) before effect ≡ actOf board (areSame (now (password .entry)) (resetPasswordIn (now (packet .entry)))) (now (packet .entry)) before effect) ⌝ }
+{
+    let Effect::Perform(task) = effect else {
+        return false;
+    };
+    let Guarded::FactoryReset { with_password: _ } = task else {
+        return false;
+    };
+    octets::are_same(
+        password,
+        octets::part_of(packet, FIRST_AT, RESET_PASSWORD_SIZE),
+    )
+}

@@ -1,0 +1,73 @@
+// Starting a session: the refusals of document 01 in their order, or the session.
+ghost use mathlib.Core.Path.{_≡_};
+ghost use Rattle.session_state.specs.Phases.{atStart};
+ghost use Rattle.settings.specs.Answers.{readTold};
+ghost use Rattle.session.specs.StartAnswers.{startNumbered, startTold};
+ghost use Rattle.session.specs.Starting.{sessionOf, startRead, startOf, startRefused};
+use crate::Session;
+use crate::StartAnswer;
+use crate::Started;
+use session_state::Phase;
+use session_state::RATE_ID_AT_START;
+use session_state::Standing;
+use settings::ReadAnswer;
+use settings::Reading;
+use settings::Settings;
+
+// How a session stands at start.
+fn at_start() -> Standing
+    ensures { λ r. ⌜ r ≡ atStart ⌝ }
+{
+    Standing {
+        phase: Phase::Detect,
+        idle: 0,
+        wrong: 0,
+        rate: RATE_ID_AT_START,
+    }
+}
+
+// The session of a board with this size of MAIN and these settings.
+fn session_of(main_size: u32, settings: Settings) -> Session
+    ensures { λ r. ⌜ r ≡ sessionOf «main_size» settings ⌝ }
+{
+    Session {
+        standing: at_start(),
+        main_size,
+        settings,
+    }
+}
+
+fn refused(answer: StartAnswer) -> Started
+    ensures { λ r. ⌜ startTold r ≡ startRefused (startNumbered answer .number) (startNumbered answer .entry) ⌝ }
+{
+    let session = session_of(0, settings::none());
+    Started { answer, session }
+}
+
+// The session of settings that were read, if they were.
+fn start_read(main_size: u32, reading: Reading) -> Started
+    ensures { λ r. ⌜ startTold r ≡ startRead «main_size» (readTold reading) ⌝ }
+{
+    let answer = reading.answer;
+    match answer {
+        ReadAnswer::Accepted => Started {
+            answer: StartAnswer::Started,
+            session: session_of(main_size, reading.settings),
+        },
+        ReadAnswer::Refused(refusal) => refused(StartAnswer::ImageRefused(refusal)),
+    }
+}
+
+// Starts a session on a board: its fuse, its MAIN flash and its settings flash.
+pub fn start(fuse: bool, main: &[u8], image: &[u8]) -> Started
+    ensures { λ r. ⌜ startTold r ≡ startOf fuse (now (main .entry)) (now (image .entry)) ⌝ }
+{
+    if fuse {
+        return refused(StartAnswer::FuseSet);
+    }
+    let size = main.len();
+    if !flash::is_main_size(size) {
+        return refused(StartAnswer::MainSizeWrong);
+    }
+    start_read(size as u32, settings::read(image))
+}

@@ -1,0 +1,36 @@
+-- What the settings let be done to a board, what an act leaves of it, and the numbers of the part.
+use Prim.Native.Nat.{ℕ}
+use mathlib.Core.List.{List, [], _∷_}
+use Rattle.line.specs.declared.Reply.{Reply}
+use Rattle.line.specs.declared.Reply.the-variants.{Message}
+use Rattle.settings.specs.declared.Shown.{Shown}
+use Rattle.flash.specs.Memory.{Memory}
+
+-- what is answered, and what is left
+pub record Acted : Type 0 where
+  pub reply : Reply
+  pub memory : Memory
+
+abbrev pub acted : Reply → Memory → Acted
+acted reply left = record { reply = reply; memory = left }
+
+-- a message, "3B and one byte"
+abbrev pub tells : ℕ → Memory → Acted
+tells code left = acted (Message code) left
+
+-- what the settings let be done; the passwords are not among it
+pub record Board : Type 0 where
+  pub mainSize : ℕ
+  pub shown : Shown
+  pub protection : List ℕ
+
+abbrev pub board : ℕ → Shown → List ℕ → Board
+board mainSize shown protection = record { mainSize = mainSize; shown = shown; protection = protection }
+
+-- 01, The loader and its edges: "One sector is 1,024 bytes."
+abbrev pub sectorSize : ℕ
+sectorSize = 1024
+
+-- "settings protected (0 or 1)": the settings flash is one sector, and this is its bit
+abbrev pub settingsProtection : Shown → List ℕ
+settingsProtection shown = shown .«settings_protected» ∷ []

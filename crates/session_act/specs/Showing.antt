@@ -1,0 +1,52 @@
+-- 01, Commands: 0x29 Read back, 0x26 Verify. Neither changes memory.
+use Prim.Native.Nat.{ℕ}
+use lib.Dec.{ltb, eqb}
+use Rattle.octets.specs.Choice.{pick}
+use Rattle.checksum.specs.Checksum.{checksumOf}
+use Rattle.line.specs.Codes as codes
+use Rattle.line.specs.declared.Reply.{Reply}
+use Rattle.line.specs.declared.Reply.the-variants.{Message, Bytes, Sum}
+use Rattle.line.specs.Replies.{readBackMost}
+use Rattle.flash.specs.declared.Region.{Region}
+use Rattle.flash.specs.declared.Place.{Place}
+use Rattle.flash.specs.Regions.{mspm0Part, placeOf}
+use Rattle.flash.specs.Memory.{Memory, bytesAt}
+use Rattle.session_act.specs.Board.{Board}
+use Rattle.session_act.specs.Programming.{isOutside}
+
+-- 01, Settings image, kind 3: "readout (two bytes, on only at 0xAABB)"
+abbrev pub readoutOn : ℕ
+readoutOn = 0xAABB
+
+-- "0x29 Read back, protected, L 9: readout off 09; size 0, above 1,720 or not in one region 05; else 30 and the bytes."
+unfoldable pub readBackIn : ℕ → ℕ → Region → Reply
+readBackIn readout size region =
+    pick (eqb readout readoutOn)
+    (pick (eqb size 0) (Message codes.invalidRange)
+    (pick (ltb readBackMost size) (Message codes.invalidRange)
+    (pick (isOutside region) (Message codes.invalidRange) Bytes)))
+    (Message codes.readoutOff)
+
+-- the region is that of so many bytes from the address on
+abbrev pub readBack : Board → ℕ → ℕ → Reply
+readBack board address size =
+    readBackIn (board .shown .readout) size (placeOf mspm0Part (board .mainSize) address size .region)
+
+-- "size under 1,024", "size above 65,536"
+abbrev pub verifyLeast : ℕ
+verifyLeast = 1024
+
+abbrev pub verifyMost : ℕ
+verifyMost = 65536
+
+-- "0x26 Verify, protected, L 9: size under 1,024: 0B; size above 65,536: 05; not in one region 05; else 32 and the checksum."
+unfoldable pub verifyAt : ℕ → Memory → Place → Reply
+verifyAt size memory place =
+    pick (ltb size verifyLeast) (Message codes.tooSmall)
+    (pick (ltb verifyMost size) (Message codes.invalidRange)
+    (pick (isOutside (place .region)) (Message codes.invalidRange)
+    (Sum (checksumOf (bytesAt place size memory)))))
+
+-- the place is that of so many bytes from the address on
+abbrev pub verify : Board → ℕ → ℕ → Memory → Reply
+verify board address size memory = verifyAt size memory (placeOf mspm0Part (board .mainSize) address size)

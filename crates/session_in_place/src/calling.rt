@@ -1,0 +1,23 @@
+// One call of a session, whose record is lent.
+ghost use mathlib.Core.Path.{_≡_};
+ghost use Rattle.flash.specs.Memory.{memory};
+ghost use Rattle.session.specs.CallAnswers.{callNumbered, left};
+ghost use Rattle.session.specs.Calling.{callOf};
+use session::CallAnswer;
+use session::Session;
+
+// The loader's call; the record becomes the session for the next call. A refused call leaves it as it was.
+pub fn call(
+    session: &mut Session,
+    main: &mut [u8],
+    image: &mut [u8],
+    wait: u32,
+    packet: &[u8],
+    area: &mut [u8],
+) -> CallAnswer
+    ensures { λ r. ⌜ left (callNumbered r) (now (session .exit)) (memory (now (main .exit)) (now (image .exit))) (now (area .exit)) ≡ callOf (now (session .entry)) (memory (now (main .entry)) (now (image .entry))) wait (now (packet .entry)) (now (area .entry)) ⌝ }
+{
+    let called = session::call(*session, main, image, wait, packet, area);
+    *session = called.session;
+    called.answer
+}

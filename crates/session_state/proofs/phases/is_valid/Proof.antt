@@ -1,0 +1,38 @@
+-- `session_state::phases::is_valid` meets its contract: the tests of the definition, one after the other.
+use borrow.Author.Needs.{needs}
+use borrow.Author.Tests.{le-leb, lt-leb, lt-ltb, le-ltb}
+use Rattle.octets.specs.Choice.{pick}
+use Rattle.line.specs.Acknowledgement.{isRate}
+use Rattle.session_state.specs.Phases.{isValid}
+use Rattle.session_state.proofs.phases.is_valid.Statement.{statement}
+use Rattle.session_state.proofs.phases.is_valid.Tie as tie
+
+pub is-valid-spec : {M : Type 1} → statement M
+unfolding isRate isValid pick
+is-valid-spec =
+    tie.close
+    (tie.spec
+    (λ c. rw (lt-leb _ _ (c .if1 .taken)))
+    (λ c. rw (le-leb _ _ (c .before .before .if1 .left), lt-leb _ _ (c .if2 .taken)))
+    (λ c.
+    rw (
+      le-leb _ _ (c .before .before .before .before .if1 .left),
+      le-leb _ _ (c .before .before .if2 .left),
+      lt-ltb _ _ (c .if3 .taken),
+    ))
+    (λ c.
+    rw (
+      le-leb _ _ (c .before .before .before .before .before .before .if1 .left),
+      le-leb _ _ (c .before .before .before .before .if2 .left),
+      le-ltb _ _ (c .before .before .if3 .left),
+      lt-leb _ _ (c .if4 .taken),
+    ))
+    (λ c κs. search needs)
+    (λ c.
+    rw (
+      c .is-valid-phase .ensures,
+      le-leb _ _ (c .before .before .before .before .before .before .before .if1 .left),
+      le-leb _ _ (c .before .before .before .before .before .if2 .left),
+      le-ltb _ _ (c .before .before .before .if3 .left),
+      le-leb _ _ (c .before .if4 .left),
+    )))

@@ -1,0 +1,30 @@
+-- `session_state::rates::rate_of` meets its contract: the table is tested entry by entry, and past it no id has a rate.
+use mathlib.Core.Path.{sym}
+use mathlib.Core.List.{List, [], _∷_}
+use Prim.Native.Nat.{ℕ}
+use native.Mathlib.Omega.{arith}
+use borrow.Author.Needs.{needs}
+use lib.Dec.{T, eqb}
+use Rattle.octets.specs.Choice.{pick}
+use Rattle.octets.proofs.Table.{passes, equal-at}
+use Rattle.line.specs.Acknowledgement.{isRate}
+use Rattle.session_state.specs.Rates.{rateOf}
+use Rattle.session_state.proofs.RateLaws.{no-rate}
+use Rattle.session_state.proofs.rates.rate_of.Statement.{statement}
+use Rattle.session_state.proofs.rates.rate_of.Tie as tie
+
+abbrev table : List ℕ
+table = 0 ∷ 4800 ∷ 9600 ∷ 19200 ∷ 38400 ∷ 57600 ∷ 115200 ∷ 1000000 ∷ 2000000 ∷ 3000000 ∷ []
+
+table-is-right : T (passes (λ id entry. eqb entry (rateOf id)) 0 table)
+unfolding isRate rateOf pick
+table-is-right = tt
+
+pub rate-of-spec : {M : Type 1} → statement M
+rate-of-spec =
+    tie.close
+    (tie.spec
+    (λ c. sym (no-rate (c .before .args .id) (c .if1 .taken)))
+    (λ c. search needs)
+    (λ c. search needs)
+    (λ c. equal-at rateOf table table-is-right (c .before .args .id) (omega arith)))

@@ -1,0 +1,14 @@
+-- 01, Commands, 0x52 Rate: the rates of the line, by their ids.
+use Prim.Native.Nat.{ℕ, _-_}
+use mathlib.Core.List.{List, [], _∷_}
+use lib.ListN.{getD}
+use Rattle.octets.specs.Choice.{pick}
+use Rattle.line.specs.Acknowledgement.{isRate}
+
+-- "4800, 9600, 19200, 38400, 57600, 115200, 1000000, 2000000, 3000000"
+abbrev pub rates : List ℕ
+rates = 4800 ∷ 9600 ∷ 19200 ∷ 38400 ∷ 57600 ∷ 115200 ∷ 1000000 ∷ 2000000 ∷ 3000000 ∷ []
+
+-- "Rates for 1..9": the rate of an id, the ids counted from 1; 0 where no rate has it
+unfoldable pub rateOf : ℕ → ℕ
+rateOf id = pick (isRate id) (getD rates (id - 1) 0) 0

@@ -1,0 +1,67 @@
+// The bodies stored.
+ghost use mathlib.Core.Path.{_≡_};
+ghost use mathlib.Core.List.{_++_};
+ghost use lib.Seq.{sets};
+ghost use Rattle.settings.specs.Bodies.{valuesOf, numbersOf, bodiesOf};
+use crate::FIELDS_SIZE;
+use crate::PASSWORD_AT;
+use crate::PROTECTION_AT;
+use crate::RESET_PASSWORD_AT;
+use crate::Settings;
+use crate::Shown;
+use crate::VALUES_AT;
+
+// Bodies 3 to 5: six bytes, then three numbers of four.
+fn shown_of(shown: Shown) -> [u8; 18]
+    ensures { λ r. ⌜ r ≡ valuesOf shown ++ numbersOf shown ⌝ }
+{
+    let mut bodies = [0u8; 18];
+    bodies[0] = shown.reset_mode;
+    bodies[1] = shown.alert;
+    bodies[4] = shown.settings_protected;
+    octets::put_number(&mut bodies, 2, 2, shown.readout as u32);
+    octets::put_number(&mut bodies, 6, 4, shown.bcr_id);
+    octets::put_number(&mut bodies, 10, 4, shown.bsl_id);
+    octets::put_number(&mut bodies, 14, 4, shown.version_pointer);
+    bodies
+}
+
+// All bodies, one after the other.
+fn joined(
+    password: [u8; 32],
+    reset_password: [u8; 16],
+    shown: [u8; 18],
+    protection: [u8; 8],
+) -> [u8; 74]
+    ensures { λ r. ⌜ r ≡ password ++ («reset_password» ++ (shown ++ protection)) ⌝ }
+{
+    let mut fields = [0u8; FIELDS_SIZE];
+    octets::put(&mut fields, PASSWORD_AT, &password);
+    octets::put(&mut fields, RESET_PASSWORD_AT, &reset_password);
+    octets::put(&mut fields, VALUES_AT, &shown);
+    octets::put(&mut fields, PROTECTION_AT, &protection);
+    fields
+}
+
+// The fields of some settings.
+fn fields_of(settings: Settings) -> [u8; 74]
+    ensures { λ r. ⌜ r ≡ bodiesOf settings ⌝ }
+{
+    let password = settings.password;
+    let reset_password = settings.reset_password;
+    let protection = settings.protection;
+    joined(
+        password,
+        reset_password,
+        shown_of(settings.shown),
+        protection,
+    )
+}
+
+// Stores the fields of some settings from a place on, where there is room for them.
+pub fn put_fields(area: &mut [u8], at: usize, settings: Settings)
+    ensures { λ _. ⌜ now (area .exit) ≡ sets (now (area .entry)) at (bodiesOf settings) ⌝ }
+{
+    let fields = fields_of(settings);
+    octets::put(area, at, &fields);
+}

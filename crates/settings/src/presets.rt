@@ -1,0 +1,47 @@
+// The settings that stand for a blank image, or for none.
+ghost use mathlib.Core.Path.{_≡_};
+ghost use Rattle.settings.specs.Values.{blankSettings, noSettings};
+use crate::Settings;
+use crate::Shown;
+
+// The settings of a blank image.
+pub fn blank() -> Settings
+    ensures { λ r. ⌜ r ≡ blankSettings ⌝ }
+{
+    let shown = Shown {
+        reset_mode: 1,
+        alert: 0,
+        readout: 0xFFFF,
+        settings_protected: 0,
+        bcr_id: 1,
+        bsl_id: 1,
+        version_pointer: 0xFFFFFFFF,
+    };
+    Settings {
+        shown,
+        protection: [0; 8],
+        password: [0xFF; 32],
+        reset_password: [0xFF; 16],
+    }
+}
+
+// What stands beside a refusal: settings with a reset mode that no call takes.
+pub fn none() -> Settings
+    ensures { λ r. ⌜ r ≡ noSettings ⌝ }
+{
+    let shown = Shown {
+        reset_mode: 255,
+        alert: 0,
+        readout: 0,
+        settings_protected: 0,
+        bcr_id: 0,
+        bsl_id: 0,
+        version_pointer: 0,
+    };
+    Settings {
+        shown,
+        protection: [0; 8],
+        password: [0; 32],
+        reset_password: [0; 16],
+    }
+}

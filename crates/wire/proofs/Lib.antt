@@ -1,2 +1,0 @@
--- CodeLaws: a code among some codes.
-pub mod CodeLaws

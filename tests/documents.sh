@@ -1,3 +1,0 @@
-# The documents that are signed cite only what is there, and list every public function and every wrong program.
-set -u
-python3 -B tests/documents.py

@@ -1,3 +1,0 @@
-# The law of "one answer" of each public function says what the function's contract says, and docs/PROMISES.md names both.
-set -u
-python3 -B tests/promises.py

@@ -1,0 +1,34 @@
+#!/bin/sh
+# Plays a session with the runner that `rt check runner` built, and prints what the board answers.
+#
+#     tools/sessions/run_script.sh FILE
+#
+# FILE is a script, or, where its name ends in .txt, the text of one (tools/sessions/make_script.py).
+#
+# The program is for x86-64. It runs as `rt` runs it: with the toolchain's own C library, and on another machine under its emulator.
+set -eu
+case ${1:-} in -h | --help) exec sed -n '2,/^[^#]/s/^# \{0,1\}//p' "$0" ;; esac
+[ $# -eq 1 ] || {
+    echo "usage: tools/sessions/run_script.sh FILE" >&2
+    exit 2
+}
+root=$(cd "$(dirname "$0")/../.." && pwd)
+[ -f "$root/target/bin/runner" ] || {
+    echo "the runner is not built; 'make run' builds it" >&2
+    exit 2
+}
+kit=$(dirname "$(dirname "$(rt doc)")")/on/$(uname -m)/toolchain
+emulator=$kit/bin/qemu-x86_64
+[ -x "$emulator" ] || emulator=
+script=$1
+case $script in
+*.txt)
+    script=$(mktemp)
+    trap 'rm -f "$script"' EXIT
+    "$root/tools/sessions/make_script.py" "$1" "$script"
+    ;;
+esac
+$emulator "$kit/lib/ld-linux-x86-64.so.2" --library-path "$kit/lib" "$root/target/bin/runner" <"$script" | {
+    IFS= read -r first && printf '%s\n' "$first" && cat
+    [ "$first" != "bad script" ] || exit 1
+}

@@ -1,0 +1,285 @@
+/* Checks of the C boundary: each refusal and their order, each byte of a record, sizes one off, and what stays untouched. */
+
+#include "bhorelmu.h"
+
+#include <stdio.h>
+#include <string.h>
+
+enum { MAIN_SIZE = 4096, SLACK = 16, FIELDS_AT = 52 };
+
+struct areas {
+    uint8_t main_flash[MAIN_SIZE];
+    uint8_t settings[BHORELMU_SETTINGS_SIZE + 1];
+    uint8_t record[BHORELMU_RECORD_SIZE + 1];
+    uint8_t reply[BHORELMU_REPLY_SIZE + SLACK];
+    uint8_t fields[BHORELMU_FIELDS_SIZE + 1];
+};
+
+static unsigned failures;
+static unsigned checks;
+
+static void check(const char *what, unsigned long long wanted, unsigned long long got)
+{
+    checks++;
+    if (wanted == got)
+        return;
+    failures++;
+    printf("%s: wanted %llu, got %llu\n", what, wanted, got);
+}
+
+static const uint8_t connect_packet[] = {0x80, 0x01, 0x00, 0x12, 0x3A, 0x61, 0x44, 0xDE};
+static const uint8_t info_packet[] = {0x80, 0x01, 0x00, 0x19, 0xB2, 0xB8, 0x96, 0x49};
+
+/* A blank board; the areas that are written to begin with bytes of their own. */
+static struct areas blank_board(void)
+{
+    struct areas areas;
+    memset(&areas, 0x5A, sizeof areas);
+    memset(areas.main_flash, 0xFF, sizeof areas.main_flash);
+    memset(areas.settings, 0xFF, sizeof areas.settings);
+    return areas;
+}
+
+static uint64_t start(struct areas *areas, uint32_t fuse, size_t main_size, size_t settings_size, size_t record_size)
+{
+    return bhorelmu_start(fuse, areas->main_flash, main_size, areas->settings, settings_size, areas->record, record_size);
+}
+
+static struct areas started_board(void)
+{
+    struct areas areas = blank_board();
+    check("a blank board starts", 0, start(&areas, 0, MAIN_SIZE, BHORELMU_SETTINGS_SIZE, BHORELMU_RECORD_SIZE));
+    return areas;
+}
+
+struct sizes {
+    size_t record, main_flash, settings, reply;
+};
+
+static const struct sizes right_sizes = {BHORELMU_RECORD_SIZE, MAIN_SIZE, BHORELMU_SETTINGS_SIZE, BHORELMU_REPLY_SIZE};
+
+static uint64_t call(struct areas *areas, struct sizes sizes, const uint8_t *packet, size_t packet_size)
+{
+    return bhorelmu_call(areas->record, sizes.record, areas->main_flash, sizes.main_flash, areas->settings, sizes.settings, 0,
+                         packet, packet_size, areas->reply, sizes.reply);
+}
+
+/* A call that must be refused, and leave every byte. */
+static void refused(const char *what, unsigned number, struct areas *areas, struct sizes sizes)
+{
+    struct areas before = *areas;
+    uint64_t answer = call(areas, sizes, info_packet, sizeof info_packet);
+    check(what, (unsigned long long)number << 56, answer);
+    check("a refused call leaves every byte", 0, (unsigned)memcmp(&before, areas, sizeof before) != 0);
+}
+
+static void start_refused(const char *what, unsigned number, unsigned entry, struct areas *areas, uint32_t fuse,
+                          struct sizes sizes)
+{
+    struct areas before = *areas;
+    uint64_t answer = start(areas, fuse, sizes.main_flash, sizes.settings, sizes.record);
+    check(what, (unsigned long long)number << 56 | entry, answer);
+    check("a refused start leaves every byte", 0, (unsigned)memcmp(&before, areas, sizeof before) != 0);
+}
+
+/* The settings image of the blank settings, written, so that it can be damaged. */
+static void write_image(struct areas *areas)
+{
+    check("blank fields are read", 0,
+          bhorelmu_settings_read(areas->settings, BHORELMU_SETTINGS_SIZE, areas->fields, BHORELMU_FIELDS_SIZE));
+    check("blank fields are written", 0,
+          bhorelmu_settings_write(areas->fields, BHORELMU_FIELDS_SIZE, areas->settings, BHORELMU_SETTINGS_SIZE));
+}
+
+/* The checksum of document 01, bit by bit: this file's own. */
+static uint32_t checksum(const uint8_t *bytes, size_t count)
+{
+    uint32_t sum = 0xFFFFFFFFu;
+    for (size_t i = 0; i < count; i++) {
+        sum ^= bytes[i];
+        for (int bit = 0; bit < 8; bit++)
+            sum = sum >> 1 ^ (sum & 1u ? 0xEDB88320u : 0u);
+    }
+    return sum;
+}
+
+/* One byte of a written image changed, and its checksum put right. */
+static struct areas board_with_byte(size_t place, uint8_t value)
+{
+    struct areas areas = blank_board();
+    write_image(&areas);
+    areas.settings[place] = value;
+    uint32_t sum = checksum(areas.settings, 1020);
+    for (int i = 0; i < 4; i++)
+        areas.settings[1020 + i] = (uint8_t)(sum >> 8 * i);
+    return areas;
+}
+
+static void check_start(void)
+{
+    struct sizes sizes = right_sizes;
+    struct areas areas = blank_board();
+    struct sizes wrong = {BHORELMU_RECORD_SIZE - 1, MAIN_SIZE - 1, BHORELMU_SETTINGS_SIZE - 1, 0};
+    start_refused("the fuse comes first", BHORELMU_FUSE_SET, 0, &areas, 1, wrong);
+    start_refused("a fuse of 256 is set", BHORELMU_FUSE_SET, 0, &areas, 256, sizes);
+    start_refused("then the size of MAIN", BHORELMU_MAIN_SIZE_WRONG, 0, &areas, 0, wrong);
+    wrong.main_flash = MAIN_SIZE;
+    start_refused("then the settings area", BHORELMU_SETTINGS_SIZE_WRONG, 0, &areas, 0, wrong);
+    wrong.settings = BHORELMU_SETTINGS_SIZE + 1;
+    start_refused("one byte long", BHORELMU_SETTINGS_SIZE_WRONG, 0, &areas, 0, wrong);
+    wrong.settings = BHORELMU_SETTINGS_SIZE;
+    start_refused("then the record area, short", BHORELMU_RECORD_NOT_VALID, 0, &areas, 0, wrong);
+    wrong.record = BHORELMU_RECORD_SIZE + 1;
+    start_refused("or long", BHORELMU_RECORD_NOT_VALID, 0, &areas, 0, wrong);
+}
+
+static void check_images(void)
+{
+    struct sizes wrong = right_sizes;
+    wrong.record = 0;
+    struct areas areas = board_with_byte(200, 0xFF);
+    areas.settings[1020] ^= 1;
+    start_refused("checksum", BHORELMU_CHECKSUM_DIFFERS, 0, &areas, 0, wrong);
+    areas = board_with_byte(0, 2);
+    start_refused("form", BHORELMU_FORM_UNKNOWN, 0, &areas, 0, wrong);
+    areas = board_with_byte(2, 5);
+    start_refused("count", BHORELMU_FORM_UNKNOWN, 0, &areas, 0, wrong);
+    for (unsigned entry = 1; entry <= 6; entry++) {
+        areas = board_with_byte(4 + 8 * (entry - 1) + 6, 1);
+        start_refused("entry", BHORELMU_ENTRY_DIFFERS, entry, &areas, 0, wrong);
+    }
+    areas = board_with_byte(1019, 0);
+    start_refused("filler", BHORELMU_FILLER_DIFFERS, 0, &areas, 0, wrong);
+    areas = board_with_byte(FIELDS_AT + BHORELMU_FIELD_RESET_MODE, BHORELMU_RESET_WITH_PASSWORD + 1);
+    start_refused("reset mode", BHORELMU_VALUE_NOT_ALLOWED, 0, &areas, 0, wrong);
+    areas = board_with_byte(FIELDS_AT + BHORELMU_FIELD_ZERO, 1);
+    start_refused("the zero byte", BHORELMU_VALUE_NOT_ALLOWED, 0, &areas, 0, wrong);
+}
+
+static void check_call_sizes(void)
+{
+    struct areas areas = started_board();
+    struct sizes sizes = right_sizes;
+    sizes.reply--;
+    sizes.record--;
+    refused("9 comes before 10", BHORELMU_REPLY_AREA_TOO_SMALL, &areas, sizes);
+    sizes = right_sizes;
+    sizes.record--;
+    refused("a record one byte short", BHORELMU_RECORD_NOT_VALID, &areas, sizes);
+    sizes.record += 2;
+    refused("a record one byte long", BHORELMU_RECORD_NOT_VALID, &areas, sizes);
+    sizes = right_sizes;
+    sizes.settings++;
+    refused("settings one byte long", BHORELMU_RECORD_NOT_VALID, &areas, sizes);
+    sizes = right_sizes;
+    sizes.main_flash -= 1024;
+    refused("MAIN unlike the record's", BHORELMU_RECORD_NOT_VALID, &areas, sizes);
+}
+
+/* Each byte of a record set to each value, by itself: refused with 10, or a record that an empty packet after no time leaves as it is. */
+static void check_record_bytes(void)
+{
+    static const uint8_t nothing[1];
+    struct areas started = started_board();
+    unsigned taken = 0;
+    for (size_t place = 0; place < BHORELMU_RECORD_SIZE; place++) {
+        for (unsigned value = 0; value < 256; value++) {
+            struct areas areas = started;
+            areas.record[place] = (uint8_t)value;
+            struct areas before = areas;
+            uint64_t answer = call(&areas, right_sizes, nothing, 0);
+            check("10 or nothing", 1, answer == 0 || answer == (uint64_t)BHORELMU_RECORD_NOT_VALID << 56);
+            check("the areas are the same", 0, (unsigned)memcmp(&before, &areas, sizeof before) != 0);
+            taken += answer == 0;
+        }
+    }
+    /* By the layout: phase 5 values, lock 1, wrong count 4, rate id 9, sleep's bytes 1 each, idle's 256, 40, 1 and 1, those of the
+       size of MAIN 1 each; in the fields any value, but reset mode 3, alert 3, settings protected 2, the zero byte 1. */
+    unsigned wanted = 5 + 1 + 4 + 9 + 4 + (256 + 40 + 1 + 1) + 4 + 48 * 256 + 3 + 3 + 2 * 256 + 2 + 1 + 20 * 256;
+    check("how many are taken", wanted, taken);
+}
+
+static void check_layout(void)
+{
+    struct areas areas = started_board();
+    static const uint8_t front[16] = {0, 0, 0, 2, 0, 0, 0, 0, 0, 0, 0, 0, 0x00, 0x10, 0, 0};
+    check("the record at start", 0, (unsigned)memcmp(front, areas.record, sizeof front) != 0);
+    check("Connect", 1, call(&areas, right_sizes, connect_packet, sizeof connect_packet));
+    check("command phase", BHORELMU_COMMAND, areas.record[BHORELMU_RECORD_PHASE]);
+    check("locked", 0, areas.record[BHORELMU_RECORD_LOCK]);
+    check("bytes past the reply", 0x5A, areas.reply[1]);
+    struct sizes larger = right_sizes;
+    larger.reply += SLACK;
+    check("Info", 33, call(&areas, larger, info_packet, sizeof info_packet));
+    for (size_t i = 33; i < sizeof areas.reply; i++)
+        check("bytes past the reply", 0x5A, areas.reply[i]);
+}
+
+static void check_fields(void)
+{
+    struct areas areas = blank_board();
+    struct areas before = areas;
+    check("the reader's 3", 3ULL << 56, bhorelmu_settings_read(areas.settings, 1023, areas.fields, 0));
+    check("fields short", 10ULL << 56, bhorelmu_settings_read(areas.settings, 1024, areas.fields, 73));
+    check("fields long", 10ULL << 56, bhorelmu_settings_read(areas.settings, 1024, areas.fields, 75));
+    check("the writer's 3", 3ULL << 56, bhorelmu_settings_write(areas.fields, 0, areas.settings, 1025));
+    check("then 10", 10ULL << 56, bhorelmu_settings_write(areas.fields, 75, areas.settings, 1024));
+    check("then 8", 8ULL << 56, bhorelmu_settings_write(areas.fields, 74, areas.settings, 1024));
+    check("all is as it was", 0, (unsigned)memcmp(&before, &areas, sizeof before) != 0);
+    write_image(&areas);
+    struct areas again = areas;
+    memset(again.fields, 0, sizeof again.fields);
+    check("read again", 0, bhorelmu_settings_read(again.settings, 1024, again.fields, 74));
+    check("the same fields", 0, (unsigned)memcmp(areas.fields, again.fields, 74) != 0);
+    check("as bytes 52 to 125", 0, (unsigned)memcmp(areas.fields, areas.settings + FIELDS_AT, 74) != 0);
+}
+
+/* The names of the fields and of their values, by what a board with such fields does. */
+static void check_field_names(void)
+{
+    static const uint8_t blank[26] = {1, 0, 0xFF, 0xFF, 0, 0, 1, 0, 0, 0, 1, 0, 0, 0, 0xFF, 0xFF, 0xFF, 0xFF, 0, 0, 0, 0, 0, 0, 0, 0};
+    struct areas areas = blank_board();
+    write_image(&areas);
+    const uint8_t *fields = areas.fields;
+    check("blank passwords", 0xFF, fields[BHORELMU_FIELD_PASSWORD] & fields[BHORELMU_FIELD_RESET_PASSWORD]);
+    check("blank fields", 0, (unsigned)memcmp(fields + BHORELMU_FIELD_RESET_MODE, blank, sizeof blank) != 0);
+    check("blank reset mode", BHORELMU_RESET_ON, fields[BHORELMU_FIELD_RESET_MODE]);
+    check("blank alert", BHORELMU_ALERT_NOTHING, fields[BHORELMU_FIELD_ALERT]);
+    areas.fields[BHORELMU_FIELD_RESET_MODE] = BHORELMU_RESET_WITH_PASSWORD;
+    areas.fields[BHORELMU_FIELD_ALERT] = BHORELMU_ALERT_DISABLE;
+    areas.fields[BHORELMU_FIELD_READOUT] = BHORELMU_READOUT_ON & 0xFF;
+    areas.fields[BHORELMU_FIELD_READOUT + 1] = BHORELMU_READOUT_ON >> 8;
+    areas.fields[BHORELMU_FIELD_SETTINGS_PROTECTED] = 1;
+    areas.fields[BHORELMU_FIELD_BSL_ID] = 7;
+    check("settings by name", 0, bhorelmu_settings_write(areas.fields, 74, areas.settings, 1024));
+    check("start with them", 0, start(&areas, 0, MAIN_SIZE, 1024, BHORELMU_RECORD_SIZE));
+    check("in the record", 0, (unsigned)memcmp(areas.record + BHORELMU_RECORD_FIELDS, areas.fields, 74) != 0);
+    call(&areas, right_sizes, connect_packet, sizeof connect_packet);
+    check("Info", 33, call(&areas, right_sizes, info_packet, sizeof info_packet));
+    check("Info's last number is the BSL id", 7, areas.reply[25]);
+    areas.fields[BHORELMU_FIELD_ZERO] = 1;
+    check("the zero byte", 8ULL << 56, bhorelmu_settings_write(areas.fields, 74, areas.settings, 1024));
+}
+
+static void check_rates(void)
+{
+    static const uint32_t rates[] = {0, 4800, 9600, 19200, 38400, 57600, 115200, 1000000, 2000000, 3000000, 0};
+    for (uint32_t id = 0; id < sizeof rates / sizeof *rates; id++)
+        check("rate", rates[id], bhorelmu_rate(id));
+    check("rate of 257", 0, bhorelmu_rate(257));
+    check("rate of 2^32 - 1", 0, bhorelmu_rate(0xFFFFFFFFu));
+}
+
+int main(void)
+{
+    check_start();
+    check_images();
+    check_call_sizes();
+    check_record_bytes();
+    check_layout();
+    check_fields();
+    check_field_names();
+    check_rates();
+    printf("%u checks, %u failed\n", checks, failures);
+    return failures != 0;
+}

@@ -1,0 +1,110 @@
+/*
+ * Holds the product (bhorelmu_*) against the model (model_*): random boards and sessions, every area and answer
+ * compared after every call.
+ *
+ *     compare SEEDS [FIRST_SEED]
+ *
+ * A seed is a board and CALLS_A_SEED calls. Ends with 0 where all agree, 1 at a difference, 2 for a wrong command line,
+ * and 3 where a run of GATE_CALLS or more has missed something that it should have seen.
+ */
+
+#include "boards.h"
+#include "coverage.h"
+#include "dice.h"
+#include "observe.h"
+#include "script.h"
+#include "sessions.h"
+#include "shrink.h"
+#include "sides.h"
+#include "wide.h"
+
+#include <signal.h>
+#include <stdlib.h>
+#include <string.h>
+
+enum { CALLS_A_SEED = 100, GATE_CALLS = 200000, SEEDS_A_LINE = 5000 };
+
+static struct script script;
+
+/* A loader that breaks down has made a difference too. */
+static void break_down(int signal_number)
+{
+    printf("difference: seed %llu, signal %d at step %zu:\n", (unsigned long long)script.seed, signal_number,
+           script.count);
+    if (script.count > 0)
+        print_step(stdout, &script.steps[script.count - 1]);
+    fflush(stdout);
+    _Exit(1);
+}
+
+/* Takes a new step and keeps it in the script. */
+static bool step_agrees(struct sides *sides, struct step step)
+{
+    uint8_t before[RECORD_ROOM];
+    script.steps[script.count++] = step;
+    memcpy(before, sides->model.area[AREA_RECORD], sizeof before);
+    take_step(sides, &step);
+    observe(&step, before, &sides->model);
+    return sides_agree(sides);
+}
+
+static bool seed_agrees(uint64_t seed)
+{
+    static struct sides sides;
+    struct dice dice = {seed};
+    uint32_t main_size = choose_main_size(&dice);
+    script.seed = seed;
+    clear_sides(&sides, seed);
+    step_agrees(&sides, choose_main(&dice, main_size));
+    step_agrees(&sides, choose_settings(&dice, main_size));
+    for (int calls = 0; calls < CALLS_A_SEED && script.count < SCRIPT_ROOM;) {
+        if (!step_agrees(&sides, choose_step(&dice, main_size, &sides.model)))
+            return false;
+        calls += is_call(&script.steps[script.count - 1]);
+    }
+    return true;
+}
+
+static bool read_number(const char *text, uint64_t *number)
+{
+    char *end;
+    *number = strtoull(text, &end, 10);
+    return end != text && *end == '\0';
+}
+
+static int judge_coverage(uint64_t calls)
+{
+    print_coverage(stdout);
+    if (calls >= GATE_CALLS)
+        return print_unseen(stdout) == 0 ? 0 : 3;
+    printf("\nfewer than %d calls: this run does not show that every case was seen\n", GATE_CALLS);
+    return 0;
+}
+
+int main(int argc, char **argv)
+{
+    uint64_t seeds = 0, first = 1;
+    if (argc < 2 || argc > 3 || !read_number(argv[1], &seeds) || (argc == 3 && !read_number(argv[2], &first))) {
+        fputs("usage: compare SEEDS [FIRST_SEED]\n", stderr);
+        return 2;
+    }
+    signal(SIGSEGV, break_down);
+    signal(SIGABRT, break_down);
+    signal(SIGFPE, break_down);
+    signal(SIGILL, break_down);
+    for (uint64_t seed = first; seed - first < seeds; seed++) {
+        if (!seed_agrees(seed)) {
+            report_difference(stdout, &script);
+            return 1;
+        }
+        free_steps(&script);
+        if ((seed - first + 1) % SEEDS_A_LINE == 0)
+            fprintf(stderr, "%llu calls agree\n", (unsigned long long)(seed - first + 1) * CALLS_A_SEED);
+    }
+    if (!wide_sizes_agree())
+        return 1;
+    int result = judge_coverage(seeds * CALLS_A_SEED);
+    printf("\n%llu calls of %llu seeds from %llu on agree\n", (unsigned long long)(seeds * CALLS_A_SEED),
+           (unsigned long long)seeds, (unsigned long long)first);
+    return result;
+}

@@ -1,0 +1,128 @@
+# Shows that the comparison finds mistakes: the model stands in for the product with one mistake at a time, and each must be told
+# from the model as it is. Ends non-zero where one is not found. Run in the repository's root: sh verification/compare/mutants.sh [SEEDS]
+set -u
+. verification/compare/build.sh
+find_compiler || exit 2
+seeds=${1:-2000}
+work=$(mktemp -d) || exit 2
+trap 'rm -rf "$work"' EXIT
+compile="$cc -w $comparison_headers -Iverification/model"
+names="-Dmodel_start=bhorelmu_start -Dmodel_call=bhorelmu_call -Dmodel_settings_read=bhorelmu_settings_read
+    -Dmodel_settings_write=bhorelmu_settings_write -Dmodel_rate=bhorelmu_rate"
+
+for source in $comparison_sources; do
+    $compile -c "$source" -o "$work/$(basename "$source" .c).o" || exit 2
+done
+
+# A mistake: its name, then how sed puts it into model.c.
+missed=0
+tried=0
+while IFS='@' read -r mistake edit; do
+    tried=$((tried + 1))
+    sed "$edit" verification/model/model.c >"$work/mutant.c"
+    if cmp -s verification/model/model.c "$work/mutant.c"; then
+        echo "NOT MADE   $mistake"
+        missed=$((missed + 1))
+        continue
+    fi
+    rm -f "$work/compare"
+    $compile $names -c "$work/mutant.c" -o "$work/mutant.out" &&
+        $cc "$work"/*.o "$work/mutant.out" -o "$work/compare" || exit 2
+    $run "$work/compare" "$seeds" >"$work/report" 2>/dev/null
+    if [ $? -ne 1 ]; then
+        echo "NOT FOUND  $mistake"
+        missed=$((missed + 1))
+        continue
+    fi
+    steps=$(sed -n 's/ of [0-9]* steps.*//p' "$work/report")
+    echo "found      $mistake ($(sed -n 's/^difference: //p' "$work/report" | head -n 1)${steps:+, $steps steps})"
+done <<'MISTAKES'
+checksum inverted at the end@s/return sum;/return ~sum;/
+L checked before the lock@s/is_protected(command) && !loader->unlocked)/is_protected(command) \&\& !loader->unlocked \&\& length_right(command, length))/
+range checked before the lock@s/    enum message refusal = standing.*/&\n    if (core[0] == PROGRAM \&\& length > 5 \&\& locate(loader, get32(core + 1), length - 5) == NULL) return send_message(reply, RANGE_INVALID);/
+password compared with the flash@s/memcmp(core + 1, loader->fields + PASSWORD,/memcmp(core + 1, loader->settings + BODIES_AT,/
+message sent after 0x24@s/^        program(loader, core, length);/        return send_message(reply, program(loader, core, length));/
+address and size added in 32 bits@/^static uint8_t \*locate/,/^}/s/    if (first < loader->main_size)$/    if (first >= loader->main_size \&\& (uint32_t)(first + count) <= loader->main_size) return loader->main_flash;\n&/
+settings one byte longer@s/count <= SETTINGS_SIZE - offset/count <= SETTINGS_SIZE + 1 - offset/
+alignment before range@s/^    if (place == NULL)/    if (place == NULL \&\& first % 8 == 0 \&\& count % 8 == 0)/
+alignment to 4@s/PROGRAM_UNIT = 8/PROGRAM_UNIT = 4/
+data size need not be aligned@s/first % PROGRAM_UNIT != 0 || count % PROGRAM_UNIT != 0/first % PROGRAM_UNIT != 0/
+program writes instead of AND@s/place\[i\] &= data\[i\]/place[i] = data[i]/
+program ignores protected sectors@s/if (!sector_protected(loader, first \/ SECTOR_SIZE))/if (1)/
+program looks only at the first sector@s/uint32_t part = SECTOR_SIZE - first % SECTOR_SIZE;/uint32_t part = count;/
+program ignores protected settings@s/else if (!loader->fields\[SETTINGS_PROTECTED\])/else/
+erase ignores protected sectors@s/        if (!sector_protected(loader, sector))/        if (1)/
+erase ignores protected settings@s/^    if (!loader->fields\[SETTINGS_PROTECTED\])/    if (1)/
+protection bits from the other end@s/>> sector % 8 & 1/>> (7 - sector % 8) \& 1/
+range erase leaves the last sector@s/sector <= last; sector/sector < last + (first == last); sector/
+range erase end exclusive@s/end >= loader->main_size/end > loader->main_size/
+range erase of start above end@s/start > end || end >= loader->main_size/start >= loader->main_size || end >= loader->main_size/
+sleep not over at its end@s/if (loader->sleep > wait)/if (loader->sleep >= wait \&\& loader->sleep > 0)/
+whole wait counts as idle after sleep@s/(wait - loader->sleep)/wait/
+idle limit off by one@s/if (idle < IDLE_LIMIT)/if (idle <= IDLE_LIMIT - 2)/
+idle added in 32 bits@s/uint64_t idle = (uint64_t)loader->idle + (wait - loader->sleep)/uint32_t idle = loader->idle + (wait - loader->sleep)/
+idle keeps what is over 10,000@/^static bool pass_time/,/^}/s/^    loader->idle = 0;$/    loader->idle = (idle - 10000) % 10000;/
+packet dropped when idle locks@/^static bool pass_time/,/^}/s/^    loader->unlocked = false;$/    if (loader->phase == COMMAND) { loader->unlocked = false; return false; }/
+Connect served as detect ends@/^static size_t serve(/,/^}/s/    if (loader->phase == DETECT)$/    if (loader->phase == DETECT || loader->phase == STANDBY)/
+Connect with bytes after it taken in detect@s/size != sizeof connect || memcmp(packet, connect, size)/size < sizeof connect || memcmp(packet, connect, sizeof connect)/
+idle cleared by an unknown code@s/if (refusal != UNKNOWN_COMMAND)/if (1)/
+idle kept by a refused command@s/if (refusal != UNKNOWN_COMMAND)/if (refusal == DONE)/
+wrong password keeps the rate@s/    loader->rate_id = RATE_AT_START;//
+wrong password keeps it unlocked@/^static enum message wrong_password/,/^}/s/    loader->unlocked = false;//
+right password keeps the count@s/    loader->wrong_count = 0;//
+wrong count without end@s/^        loader->wrong_count++;/&\n    else loader->wrong_count++;/
+alert only at the third@s/    if (loader->fields\[ALERT\] == ALERT_RESET)/    if (loader->fields[ALERT] == ALERT_RESET \&\& before < 3)/;s/    loader->sleep = SLEEP_LARGEST;/    unsigned before = loader->wrong_count;\n&/
+alert reset obeys the reset mode@s/    if (loader->fields\[ALERT\] == ALERT_RESET)/    if (loader->fields[ALERT] == ALERT_RESET \&\& loader->fields[RESET_MODE] != RESET_OFF)/
+disable stays asleep@s/^        loader->sleep = 0;$//
+disable burns nothing@s/loader->burn = true/loader->burn = false/
+alert of nothing burns too@s/    return ALERTED;/    loader->burn = true;\n&/
+Unlock of wrong L counts@s/^    if (refusal == DONE)/    if (refusal == COMMAND_INVALID \&\& core[0] == UNLOCK) wrong_password(loader);\n&/
+Start of wrong L ends@s/^    if (refusal == DONE)/    if (core[0] == START) loader->phase = ENDED, loader->unlocked = false;\n&/
+Start keeps the lock open@/case START:/,/return 0/s/        loader->unlocked = false;//
+Connect locks@s/default: \/\* Connect \*\//&\n        loader->unlocked = false;/
+rate id 9 refused@s/core\[1\] > RATE_LARGEST/core[1] >= RATE_LARGEST/
+L 1,722 taken@s/length > CORE_LARGEST/length > CORE_LARGEST + 1/
+checksum before the size@s/    if (size != length + FRAME_SIZE)/    if (size > length + FRAME_SIZE \&\& checksum(packet + 3, length) != get32(packet + 3 + length)) return CHECKSUM_INCORRECT;\n&/
+header after the size@s/    if (packet\[0\] != COMMAND_HEADER)/    if (size >= 3 \&\& packet[0] != COMMAND_HEADER)/
+empty packet answered@s/^    if (size == 0)$/    if (size == 0 \&\& loader->phase == COMMAND) { reply[0] = UNKNOWN_ERROR; return 1; }\n&/
+readout bytes swapped@s/READOUT_ON = 0xAABB/READOUT_ON = 0xBBAA/
+range before readout@s/    if (get16(loader->fields + READOUT) != READOUT_ON)/    if (get16(loader->fields + READOUT) != READOUT_ON \&\& place != NULL)/
+Read back of 0 bytes@s/count == 0 || count > READ_BACK_LARGEST/count > READ_BACK_LARGEST/
+Read back of 1,720 refused@s/count > READ_BACK_LARGEST/count >= READ_BACK_LARGEST/
+Verify of 1,024 refused@s/count < VERIFY_LEAST/count <= VERIFY_LEAST/
+range before Verify's size@s/    if (count < VERIFY_LEAST)/    if (count < VERIFY_LEAST \&\& place != NULL)/
+Factory reset in mode 1 wants the password@s/fields\[RESET_MODE\] == RESET_WITH_PASSWORD &&/(fields[RESET_MODE] == RESET_WITH_PASSWORD || length == 17) \&\&/
+Factory reset takes no password in mode 2@s/(length == 1 || memcmp(\(.*\)) != 0))/(length != 1 \&\& memcmp(\1) != 0))/
+version at any pointer@s/pointer % 4 == 0 && //
+version not at size - 4@s/pointer <= loader->main_size - 4/pointer < loader->main_size - 4/
+version pointer added in 32 bits@s/    bool in_main = /    if (pointer == 0xFFFFFFFCu) pointer = 0;\n&/
+byte past the reply written@s/        return 1;$/        return (reply[1] = 0, 1);/
+blank image refused@s/    if (all_ones(image, SETTINGS_SIZE)) {/    if (0) {/
+form not looked at@s/get16(image) != FORM || //
+entry's zero not looked at@s/i < ENTRY_FIELDS; i++, field += 2)$/i < ENTRY_FIELDS; i++, field += 2) if (i != 3)/;/^static void write_image/,/^}/s/ if (i != 3)//
+entries counted from 0@s/return entry + 1;/return entry;/
+last filler byte not looked at@s/all_ones(image + FILLER_AT, CHECKSUM_AT - FILLER_AT)/all_ones(image + FILLER_AT, CHECKSUM_AT - FILLER_AT - 1)/
+body 3's zero byte not looked at@s/ && fields\[ZERO\] == 0//
+alert 3 allowed@s/fields\[ALERT\] <= ALERT_DISABLE/fields[ALERT] <= ALERT_DISABLE + 1/
+writer leaves old filler@s/    memset(image + FILLER_AT.*//
+writer refuses 8 before 10@s/^    if (fields_size != FIELDS_SIZE)$/    if (fields_size >= FIELDS_SIZE \&\& image_size == SETTINGS_SIZE \&\& !body_3_allowed(fields)) return refused(8);\n&/
+record unlocked and asleep taken@s/if (unlocked && sleep > 0)/if (0)/
+record with idle 10,000 taken@s/get32(record + AT_IDLE) >= IDLE_LIMIT/get32(record + AT_IDLE) > IDLE_LIMIT/
+record with lock 2 taken@s/ || record\[AT_LOCK\] > 1)/ || record[AT_LOCK] > 2)/
+record with other MAIN taken@s/ || main_size != get32(record + AT_MAIN_SIZE)/ || main_size < get32(record + AT_MAIN_SIZE)/
+reply area of 1,728 taken@s/reply_size < REPLY_AREA/reply_size < REPLY_AREA - 1/
+10 checked before 9@s/^    if (reply_size < REPLY_AREA)/    if (record_size == RECORD_SIZE \&\& !is_record(record)) return refused(10);\n&/
+standby checked before 10@s/^    if (settings_size != SETTINGS_SIZE || main_size/    if (record[AT_PHASE] > COMMAND) return 0;\n&/
+fuse taken by its low byte@s/if (fuse != 0)/if ((uint8_t)fuse != 0)/
+rate id cut to a byte@s/id >= 1 && id <= RATE_LARGEST ? rates\[id - 1\] : 0/(uint8_t)id >= 1 \&\& (uint8_t)id <= RATE_LARGEST ? rates[(uint8_t)id - 1] : 0/
+record keeps a start's old lock@s/memset(record, 0, AT_FIELDS)/memset(record + AT_SLEEP, 0, 12); record[AT_WRONG_COUNT] = 0/
+MAIN size cut to 32 bits@s/static bool main_size_allowed(size_t size)/static bool main_size_allowed(uint32_t size)/
+record size cut to 16 bits@s/record_size != RECORD_SIZE/(uint16_t)record_size != RECORD_SIZE/
+settings size cut to 16 bits@s/^    if (size != SETTINGS_SIZE)/    if ((uint16_t)size != SETTINGS_SIZE)/
+reply size cut to 16 bits@s/reply_size < REPLY_AREA/(uint16_t)reply_size < REPLY_AREA/
+fields size cut to a byte@s/fields_size != FIELDS_SIZE/(uint8_t)fields_size != FIELDS_SIZE/
+packet size cut to 16 bits@s/static uint8_t acknowledgement(const uint8_t \*packet, size_t size)/static uint8_t acknowledgement(const uint8_t *packet, uint16_t size)/
+MISTAKES
+
+echo "$tried mistakes, $missed not found"
+[ "$missed" -eq 0 ]
