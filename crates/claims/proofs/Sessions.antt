@@ -3,6 +3,8 @@
 pub mod CallRules
 -- ExactConnect: which eight bytes are answered in detect.
 pub mod ExactConnect
+-- AsBefore: no call has moved with the landing of plans; it goes with the next landing.
+pub mod AsBefore
 -- BitsBeyondMain: protection bits for sectors that MAIN does not have do nothing.
 pub mod BitsBeyondMain
 -- NumberRule: every call has an answer, and which numbers of 01 it can have.

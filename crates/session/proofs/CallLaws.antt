@@ -39,7 +39,7 @@ module _ (session : Session) (before : Memory) (wait : ℕ) (packet area : List 
   unfolding serveOf
   call-size-fits =
       every-call (λ left. left .answer .size ≤ 1729) (λ number. omega arith)
-      (answer-fits _ _ packet (session .«main_size») _ area)
+      (answer-fits _ _ _ packet _ area)
 
   -- 01, Phases and waits: "Settings are taken at start": a call changes only how the session stands
   pub call-keeps-settings : after .session ≡ standsThen session (after .session .standing)

@@ -1,6 +1,6 @@
 -- 01, Phases and waits, and Commands (004): one call of a session.
 use Prim.Native.Nat.{ℕ}
-use mathlib.Core.Bool.{false, not}
+use mathlib.Core.Bool.{Bool, false, not}
 use mathlib.Core.List.{List}
 use lib.Dec.{ltb}
 use lib.ListN.{length}
@@ -13,8 +13,9 @@ use Rattle.flash.specs.Memory.{Memory}
 use Rattle.session_judge.specs.declared.Effect.{Effect}
 use Rattle.session_judge.specs.declared.Judged.{Judged}
 use Rattle.session_judge.specs.Hearing.{judgedOf}
+use Rattle.session_act.specs.declared.Planned.{Planned}
 use Rattle.session_act.specs.Board.{Acted, Board, board}
-use Rattle.session_act.specs.Acting.{actOf}
+use Rattle.session_act.specs.Acting.{planOn, actOf}
 use Rattle.session_send.specs.Answering.{answerOf}
 use Rattle.session.specs.declared.Session.{Session}
 use Rattle.session.specs.Records.{isRecord}
@@ -35,28 +36,35 @@ abbrev pub judgement : Session → ℕ → List ℕ → Judged
 judgement session wait packet =
     judgedOf (session .standing) (session .settings .shown .alert) wait packet (areSame (session .settings .password) (passwordIn packet))
 
--- what was decided is done to memory
+-- whether the packet carries the session's reset password
+abbrev pub carriesReset : Session → List ℕ → Bool
+carriesReset session packet = areSame (session .settings .«reset_password») (resetPasswordIn packet)
+
+-- what was decided is planned, and done to memory
+abbrev pub intent : Session → List ℕ → Memory → Effect → Planned
+intent session packet before effect = planOn (boardOf session) (carriesReset session packet) before effect
+
 abbrev pub deed : Session → List ℕ → Memory → Effect → Acted
-deed session packet before effect =
-    actOf (boardOf session) (areSame (session .settings .«reset_password») (resetPasswordIn packet)) packet before effect
+deed session packet before effect = actOf (boardOf session) (carriesReset session packet) packet before effect
 
 -- all that a call leaves where it is not refused: "the answer of that call, and of no other, tells the board to burn its fuse"
 abbrev pub served : Session → Judged → Acted → Sent → Left
 served session judged acted sent =
     left (callTold 0 (sent .size) (judged .burn)) (standsThen session (judged .standing)) (acted .memory) (sent .area)
 
--- what was done is answered
-abbrev pub answered : Session → List ℕ → List ℕ → Judged → Acted → Left
-answered session packet area judged acted =
+-- what was done is answered, with the bytes of the place that was planned
+abbrev pub answered : Session → List ℕ → List ℕ → Judged → Planned → Acted → Left
+answered session packet area judged planned acted =
     served session judged acted
-    (answerOf (judged .effect) (acted .reply) packet (session .«main_size») (acted .memory) area)
+    (answerOf (acted .reply) (planned .place) (planned .count) packet (acted .memory) area)
 
--- judge, act, answer
-abbrev pub carriedOut : Session → Memory → List ℕ → List ℕ → Judged → Left
-carriedOut session before packet area judged = answered session packet area judged (deed session packet before (judged .effect))
+-- what was judged is followed: plan, carry out, answer
+abbrev pub followed : Session → Memory → List ℕ → List ℕ → Judged → Left
+followed session before packet area judged =
+    answered session packet area judged (intent session packet before (judged .effect)) (deed session packet before (judged .effect))
 
 unfoldable pub serveOf : Session → Memory → ℕ → List ℕ → List ℕ → Left
-serveOf session before wait packet area = carriedOut session before packet area (judgement session wait packet)
+serveOf session before wait packet area = followed session before packet area (judgement session wait packet)
 
 -- 01, Numbers of refused calls: "each changes nothing lent and returns the record it was given"
 abbrev pub callRefused : ℕ → Session → Memory → List ℕ → Left

@@ -1,16 +1,21 @@
-// One call of a session: check the record, judge the packet, act on memory, answer.
+// One call of a session: check the record, judge the packet, plan, carry out, answer.
 ghost use mathlib.Core.Path.{_≡_};
 ghost use Rattle.flash.specs.Memory.{memory};
 ghost use Rattle.session_act.specs.Board.{acted};
+ghost use Rattle.session_act.specs.Plans.{says};
 ghost use Rattle.session.specs.CallAnswers.{callTold, callNumbered, callLeft};
-ghost use Rattle.session.specs.Calling.{standsThen, judgement, deed, serveOf, callOf};
+ghost use Rattle.session.specs.Calling.{standsThen, judgement, intent, deed, serveOf, callOf};
 use crate::CallAnswer;
 use crate::Called;
 use crate::Session;
 use crate::passwords;
 use crate::records;
+use flash::Place;
+use flash::Region;
 use line::Reply;
 use line::codes;
+use session_act::Order;
+use session_act::Planned;
 use session_judge::Effect;
 use session_judge::Judged;
 
@@ -23,31 +28,54 @@ fn judge_packet(session: Session, wait: u32, packet: &[u8]) -> Judged
     session_judge::judge(session.standing, settings.shown.alert, wait, packet, right)
 }
 
-// What was decided is done to memory. Most packets are only answered, and nothing is to be done.
+// An answer, and nothing to be done.
+fn says(reply: Reply) -> Planned
+    ensures { λ r. ⌜ r ≡ says reply ⌝ }
+{
+    Planned {
+        reply,
+        order: Order::Keep,
+        place: Place {
+            region: Region::Outside,
+            offset: 0,
+        },
+        count: 0,
+    }
+}
+
+// What was decided is planned, and the plan's order carried out. Most packets are only answered, and nothing is to be done.
 fn act_on(
     effect: Effect,
     session: Session,
     packet: &[u8],
     main: &mut [u8],
     image: &mut [u8],
-) -> Reply
-    ensures { λ r. ⌜ acted r (memory (now (main .exit)) (now (image .exit))) ≡ deed session (now (packet .entry)) (memory (now (main .entry)) (now (image .entry))) effect ⌝ }
+) -> Planned
+    ensures { λ r. ⌜ (r ≡ intent session (now (packet .entry)) (memory (now (main .entry)) (now (image .entry))) effect) × (acted (r .reply) (memory (now (main .exit)) (now (image .exit))) ≡ deed session (now (packet .entry)) (memory (now (main .entry)) (now (image .entry))) effect) ⌝ }
 {
     if let Effect::Say(reply) = effect {
-        return reply;
+        return says(reply);
     }
     let settings = session.settings;
     let right = passwords::resets(effect, &settings.reset_password, packet);
-    session_act::act(
+    let planned = session_act::plan(
         effect,
         settings.shown,
-        &settings.protection,
         session.main_size,
         right,
+        main,
+        image,
+    );
+    let order = planned.order;
+    session_act::carry_out(
+        order,
+        settings.shown,
+        &settings.protection,
         packet,
         main,
         image,
-    )
+    );
+    planned
 }
 
 // What a call answers where it is not refused, and the session for the next call: it keeps its MAIN size and its settings.
@@ -80,8 +108,10 @@ fn serve(
 {
     let judged = judge_packet(session, wait, packet);
     let effect = judged.effect;
-    let reply = act_on(effect, session, packet, main, image);
-    let size = session_send::answer(effect, reply, packet, session.main_size, main, image, area);
+    let planned = act_on(effect, session, packet, main, image);
+    let reply = planned.reply;
+    let place = planned.place;
+    let size = session_send::answer(reply, place, planned.count, packet, main, image, area);
     served(session, judged, size)
 }
 

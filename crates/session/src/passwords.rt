@@ -8,8 +8,8 @@ ghost use Rattle.line.specs.Packet.{passwordIn, resetPasswordIn};
 ghost use Rattle.session_state.specs.declared.Standing.{Standing};
 ghost use Rattle.session_judge.specs.Hearing.{judgedOf};
 ghost use Rattle.flash.specs.Memory.{Memory};
-ghost use Rattle.session_act.specs.Board.{Board};
-ghost use Rattle.session_act.specs.Acting.{actOf};
+ghost use Rattle.settings.specs.declared.Shown.{Shown};
+ghost use Rattle.session_act.specs.Acting.{planOf};
 use line::CORE_AT;
 use line::FIRST_AT;
 use line::Guarded;
@@ -30,9 +30,9 @@ pub(crate) fn unlocks(password: &[u8], packet: &[u8]) -> bool
     octets::are_same(password, octets::part_of(packet, FIRST_AT, PASSWORD_SIZE))
 }
 
-// The bit of which the act hears: whether a Factory reset carries the reset password. Any other effect is done alike.
+// The bit of which the plan hears: whether a Factory reset carries the reset password. Any other effect is planned alike.
 pub(crate) fn resets(effect: Effect, password: &[u8], packet: &[u8]) -> bool
-    ensures { λ r. ⌜ ((board : Board) (before : Memory) → actOf board r (now (packet .entry)) before effect ≡ actOf board (areSame (now (password .entry)) (resetPasswordIn (now (packet .entry)))) (now (packet .entry)) before effect) ⌝ }
+    ensures { λ r. ⌜ ((mainSize : ℕ) (shown : Shown) (before : Memory) → planOf mainSize shown r before effect ≡ planOf mainSize shown (areSame (now (password .entry)) (resetPasswordIn (now (packet .entry)))) before effect) ⌝ }
 {
     let Effect::Perform(task) = effect else {
         return false;

@@ -1,7 +1,7 @@
--- What is done and answered where no protected command is performed: all that a locked board can do.
+-- What is planned, done and answered where no protected command is performed: all that a locked board can do.
 use mathlib.Core.Path.{_≡_, refl, sym, ap, ap₂, _∙_}
 use mathlib.Core.Bool.{Bool, true, false, true≢false}
-use mathlib.Core.List.{List}
+use mathlib.Core.List.{List, []}
 use Prim.Native.Nat.{ℕ, _+_, _%_, _≤_}
 use native.Mathlib.Omega.{arith}
 use borrow.Author.Tests.{eqb-true, leb-true}
@@ -21,15 +21,44 @@ use Rattle.session_judge.specs.declared.Effect.the-variants.{Say, TellInfo, Str
 use Rattle.session_judge.proofs.EffectTests.{isPerformed}
 use Rattle.session_act.specs.Info.{versionSize, versionAt}
 use Rattle.session_act.specs.Board.{Board, sectorSize}
-use Rattle.session_act.specs.Erasing.{allErased}
-use Rattle.session_act.specs.Acting.{actOf}
+use Rattle.session_act.specs.declared.Order.the-variants.{Keep, EraseBoth}
+use Rattle.session_act.specs.Orders.{carriedOut}
+use Rattle.session_act.specs.Acting.{planOf, actOf}
+use Rattle.session_act.proofs.PlanLaws.{bytesBeside}
+
+-- ---- orders
+
+abbrev pub isStrike : Effect → Bool
+isStrike (Say reply) = false
+isStrike TellInfo = false
+isStrike Strike = true
+isStrike (Perform task) = false
+
+module _ (mainSize : ℕ) (shown : Shown) (right : Bool) (before : Memory) where
+  -- all that a locked board can be told to do to memory: nothing, or the strike's erase of both regions
+  pub locked-orders : (effect : Effect) → isPerformed effect ≡ false
+      → planOf mainSize shown right before effect .order ≡ pick (isStrike effect) EraseBoth Keep
+  unfolding pick
+  locked-orders (Say reply) h = refl
+  locked-orders TellInfo h = refl
+  locked-orders Strike h = refl
+  locked-orders (Perform task) h = absurd (true≢false h)
+
+  -- and no byte of memory goes with the answer, whatever memory then is
+  pub locked-shows-nothing : (after : Memory) (effect : Effect) → isPerformed effect ≡ false
+      → bytesBeside after (planOf mainSize shown right before effect) ≡ []
+  locked-shows-nothing after (Say reply) h = refl
+  locked-shows-nothing after TellInfo h = refl
+  locked-shows-nothing after Strike h = refl
+  locked-shows-nothing after (Perform task) h = absurd (true≢false h)
 
 -- ---- memory
 
 module _ (board : Board) (right : Bool) (packet : List ℕ) (before : Memory) where
   -- all is erased by a strike, and nothing is changed without one
   pub only-strikes-change : (P : Memory → Type 0) (effect : Effect) → isPerformed effect ≡ false
-      → (effect ≡ Strike → P (allErased board before)) → ((effect ≡ Strike → ⊥) → P before) → P (actOf board right packet before effect .memory)
+      → (effect ≡ Strike → P (carriedOut (board .shown) (board .protection) packet before EraseBoth)) → ((effect ≡ Strike → ⊥) → P before)
+      → P (actOf board right packet before effect .memory)
   only-strikes-change P (Say reply) h struck kept = kept (λ e. let z : _≡_ {A = ℕ} 0 1 = cc in omega arith)
   only-strikes-change P TellInfo h struck kept = kept (λ e. let z : _≡_ {A = ℕ} 0 1 = cc in omega arith)
   only-strikes-change P Strike h struck kept = struck refl

@@ -9,8 +9,7 @@ use Rattle.line.specs.Codes as codes
 use Rattle.flash.proofs.Region.{the-type}
 use Rattle.flash.specs.declared.Region.{Region}
 use Rattle.flash.specs.declared.Region.the-variants.{Main, Settings, Outside}
-use Rattle.flash.specs.Memory.{Memory}
-use Rattle.session_act.specs.Board.{tells, Board}
+use Rattle.session_act.specs.Plans.{tells}
 use Rattle.session_act.specs.Erasing.{rangeEraseIn}
 use Rattle.session_act.specs.Programming.{isOutside}
 
@@ -19,8 +18,8 @@ not-outside Main h = refl
 not-outside Settings h = refl
 not-outside Outside h = absurd (miss (0 ∷ 1 ∷ []) 2 tt h)
 
-pub not-main : (board : Board) (start end : ℕ) (before : Memory) (region : Region) → OneOf (1 ∷ 2 ∷ []) (tagOf the-type region)
-    → rangeEraseIn board start end before region ≡ tells codes.invalidRange before
-not-main board start end before Main h = absurd (miss (1 ∷ 2 ∷ []) 0 tt h)
-not-main board start end before Settings h = refl
-not-main board start end before Outside h = refl
+pub not-main : (start end : ℕ) (region : Region) → OneOf (1 ∷ 2 ∷ []) (tagOf the-type region)
+    → rangeEraseIn start end region ≡ tells codes.invalidRange
+not-main start end Main h = absurd (miss (1 ∷ 2 ∷ []) 0 tt h)
+not-main start end Settings h = refl
+not-main start end Outside h = refl

@@ -1,33 +1,48 @@
--- 01, Commands (004): what each does to memory and what is answered, once a packet is judged.
+-- 01, Commands (004): what is planned once a packet is judged, and the plan carried out.
 use Prim.Native.Nat.{ℕ}
 use mathlib.Core.Bool.{Bool}
 use mathlib.Core.List.{List}
 use Rattle.line.specs.Codes as codes
-use Rattle.line.specs.Packet.{dataIn}
 use Rattle.line.specs.declared.Guarded.{Guarded}
 use Rattle.line.specs.declared.Guarded.the-variants as guarded
 use Rattle.session_judge.specs.declared.Effect.{Effect}
 use Rattle.session_judge.specs.declared.Effect.the-variants.{Say, TellInfo, Strike, Perform}
+use Rattle.settings.specs.declared.Shown.{Shown}
 use Rattle.flash.specs.Memory.{Memory}
+use Rattle.session_act.specs.declared.Planned.{Planned}
 use Rattle.session_act.specs.Info.{infoTold}
-use Rattle.session_act.specs.Board.{Acted, acted, tells, Board}
+use Rattle.session_act.specs.Board.{Acted, acted, Board}
+use Rattle.session_act.specs.Orders.{carriedOut}
+use Rattle.session_act.specs.Plans.{says, tells}
 use Rattle.session_act.specs.Erasing.{rangeErase, massErase, factoryReset, struck}
 use Rattle.session_act.specs.Programming.{program}
 use Rattle.session_act.specs.Showing.{readBack, verify}
 
 -- a protected command of an unlocked session; "wrong L 06; then each one's own checks"
-abbrev pub performed : Board → Bool → List ℕ → Memory → Guarded → Acted
-performed board right packet before (guarded.RangeErase start end) = rangeErase board start end before
-performed board right packet before guarded.MassErase = massErase board before
-performed board right packet before (guarded.Program address size silent) = program board address size (dataIn size packet) before
-performed board right packet before (guarded.ReadBack address size) = acted (readBack board address size) before
-performed board right packet before (guarded.Verify address size) = acted (verify board address size before) before
-performed board right packet before (guarded.FactoryReset with) = factoryReset board with right before
-performed board right packet before guarded.WrongLength = tells codes.wrongLength before
+abbrev pub taskPlanned : ℕ → Shown → Bool → Memory → Guarded → Planned
+taskPlanned mainSize shown right memory (guarded.RangeErase start end) = rangeErase mainSize start end
+taskPlanned mainSize shown right memory guarded.MassErase = massErase
+taskPlanned mainSize shown right memory (guarded.Program address size silent) = program mainSize address size
+taskPlanned mainSize shown right memory (guarded.ReadBack address size) = readBack (shown .readout) mainSize address size
+taskPlanned mainSize shown right memory (guarded.Verify address size) = verify mainSize address size memory
+taskPlanned mainSize shown right memory (guarded.FactoryReset with) = factoryReset (shown .«reset_mode») with right
+taskPlanned mainSize shown right memory guarded.WrongLength = tells codes.wrongLength
 
--- what was decided is done; the bit is whether the packet carries the reset password
+-- what was decided is planned; the bit is whether the packet carries the reset password
+abbrev pub planOf : ℕ → Shown → Bool → Memory → Effect → Planned
+planOf mainSize shown right memory (Say reply) = says reply
+planOf mainSize shown right memory TellInfo = says (infoTold shown (memory .main))
+planOf mainSize shown right memory Strike = struck
+planOf mainSize shown right memory (Perform task) = taskPlanned mainSize shown right memory task
+
+-- the plan of a board, and what its order leaves there
+abbrev pub planOn : Board → Bool → Memory → Effect → Planned
+planOn board right memory effect = planOf (board .mainSize) (board .shown) right memory effect
+
+abbrev pub carriedOn : Board → List ℕ → Memory → Planned → Memory
+carriedOn board packet before planned = carriedOut (board .shown) (board .protection) packet before (planned .order)
+
+-- the answer is the plan's, and its order is carried out
 abbrev pub actOf : Board → Bool → List ℕ → Memory → Effect → Acted
-actOf board right packet before (Say reply) = acted reply before
-actOf board right packet before TellInfo = acted (infoTold (board .shown) (before .main)) before
-actOf board right packet before Strike = struck board before
-actOf board right packet before (Perform task) = performed board right packet before task
+actOf board right packet before effect =
+    acted (planOn board right before effect .reply) (carriedOn board packet before (planOn board right before effect))

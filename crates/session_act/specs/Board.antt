@@ -2,7 +2,6 @@
 use Prim.Native.Nat.{ℕ}
 use mathlib.Core.List.{List, [], _∷_}
 use Rattle.line.specs.declared.Reply.{Reply}
-use Rattle.line.specs.declared.Reply.the-variants.{Message}
 use Rattle.settings.specs.declared.Shown.{Shown}
 use Rattle.flash.specs.Memory.{Memory}
 
@@ -13,10 +12,6 @@ pub record Acted : Type 0 where
 
 abbrev pub acted : Reply → Memory → Acted
 acted reply left = record { reply = reply; memory = left }
-
--- a message, "3B and one byte"
-abbrev pub tells : ℕ → Memory → Acted
-tells code left = acted (Message code) left
 
 -- what the settings let be done; the passwords are not among it
 pub record Board : Type 0 where

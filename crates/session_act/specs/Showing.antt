@@ -7,11 +7,12 @@ use Rattle.line.specs.Codes as codes
 use Rattle.line.specs.declared.Reply.{Reply}
 use Rattle.line.specs.declared.Reply.the-variants.{Message, Bytes, Sum}
 use Rattle.line.specs.Replies.{readBackMost}
-use Rattle.flash.specs.declared.Region.{Region}
 use Rattle.flash.specs.declared.Place.{Place}
 use Rattle.flash.specs.Regions.{mspm0Part, placeOf}
 use Rattle.flash.specs.Memory.{Memory, bytesAt}
-use Rattle.session_act.specs.Board.{Board}
+use Rattle.session_act.specs.declared.Order.the-variants.{Keep}
+use Rattle.session_act.specs.declared.Planned.{Planned}
+use Rattle.session_act.specs.Plans.{planned, says, tells}
 use Rattle.session_act.specs.Programming.{isOutside}
 
 -- 01, Settings image, kind 3: "readout (two bytes, on only at 0xAABB)"
@@ -19,18 +20,17 @@ abbrev pub readoutOn : ℕ
 readoutOn = 0xAABB
 
 -- "0x29 Read back, protected, L 9: readout off 09; size 0, above 1,720 or not in one region 05; else 30 and the bytes."
-unfoldable pub readBackIn : ℕ → ℕ → Region → Reply
-readBackIn readout size region =
+unfoldable pub readBackAt : ℕ → ℕ → Place → Planned
+readBackAt readout size place =
     pick (eqb readout readoutOn)
-    (pick (eqb size 0) (Message codes.invalidRange)
-    (pick (ltb readBackMost size) (Message codes.invalidRange)
-    (pick (isOutside region) (Message codes.invalidRange) Bytes)))
-    (Message codes.readoutOff)
+    (pick (eqb size 0) (tells codes.invalidRange)
+    (pick (ltb readBackMost size) (tells codes.invalidRange)
+    (pick (isOutside (place .region)) (tells codes.invalidRange) (planned Bytes Keep place size))))
+    (tells codes.readoutOff)
 
--- the region is that of so many bytes from the address on
-abbrev pub readBack : Board → ℕ → ℕ → Reply
-readBack board address size =
-    readBackIn (board .shown .readout) size (placeOf mspm0Part (board .mainSize) address size .region)
+-- the place is that of so many bytes from the address on
+abbrev pub readBack : ℕ → ℕ → ℕ → ℕ → Planned
+readBack readout mainSize address size = readBackAt readout size (placeOf mspm0Part mainSize address size)
 
 -- "size under 1,024", "size above 65,536"
 abbrev pub verifyLeast : ℕ
@@ -48,5 +48,5 @@ verifyAt size memory place =
     (Sum (checksumOf (bytesAt place size memory)))))
 
 -- the place is that of so many bytes from the address on
-abbrev pub verify : Board → ℕ → ℕ → Memory → Reply
-verify board address size memory = verifyAt size memory (placeOf mspm0Part (board .mainSize) address size)
+abbrev pub verify : ℕ → ℕ → ℕ → Memory → Planned
+verify mainSize address size memory = says (verifyAt size memory (placeOf mspm0Part mainSize address size))

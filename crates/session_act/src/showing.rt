@@ -2,8 +2,11 @@
 ghost use mathlib.Core.Path.{_≡_};
 ghost use Rattle.flash.specs.Regions.{mspm0Part, placeOf};
 ghost use Rattle.flash.specs.Memory.{memory};
-ghost use Rattle.session_act.specs.Showing.{readBackIn, verifyAt};
+ghost use Rattle.session_act.specs.Showing.{readBackAt, verifyAt};
+use crate::Order;
+use crate::Planned;
 use crate::part;
+use crate::plans;
 use flash::Region;
 use line::Reply;
 use line::codes;
@@ -16,25 +19,30 @@ const VERIFY_LEAST: u32 = 1024;
 
 const VERIFY_MOST: u32 = 65536;
 
-// Whether a range may be read back; its bytes are taken where the reply is written.
-pub(crate) fn read_back(readout: u16, main_size: u32, address: u32, size: u32) -> Reply
-    ensures { λ r. ⌜ r ≡ readBackIn readout size (placeOf mspm0Part «main_size» address size .region) ⌝ }
+// Where the bytes of a range stand that may be read back.
+pub(crate) fn read_back(readout: u16, main_size: u32, address: u32, size: u32) -> Planned
+    ensures { λ r. ⌜ r ≡ readBackAt readout size (placeOf mspm0Part «main_size» address size) ⌝ }
 {
     if readout != READOUT_ON {
-        return Reply::Message(codes::READOUT_OFF);
+        return plans::tells(codes::READOUT_OFF);
     }
     if size == 0 {
-        return Reply::Message(codes::INVALID_RANGE);
+        return plans::tells(codes::INVALID_RANGE);
     }
     if READ_BACK_MOST < size {
-        return Reply::Message(codes::INVALID_RANGE);
+        return plans::tells(codes::INVALID_RANGE);
     }
     let place = part::locate(main_size, address, size as u64);
     let region = place.region;
     if let Region::Outside = region {
-        return Reply::Message(codes::INVALID_RANGE);
+        return plans::tells(codes::INVALID_RANGE);
     }
-    Reply::Bytes
+    Planned {
+        reply: Reply::Bytes,
+        order: Order::Keep,
+        place,
+        count: size,
+    }
 }
 
 // The checksum of a range that one region holds wholly.

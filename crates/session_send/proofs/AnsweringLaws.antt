@@ -1,7 +1,7 @@
--- What silent commands get, that silence sends nothing, that every answer fits, and that a locked board sends no bytes of memory.
-use mathlib.Core.Path.{_≡_, refl}
-use mathlib.Core.Bool.{true, false, true≢false}
-use mathlib.Core.List.{List, [], _++_}
+-- What silent commands get, that silence sends nothing, and that every answer fits.
+use mathlib.Core.Path.{_≡_}
+use mathlib.Core.Bool.{true, false}
+use mathlib.Core.List.{List, _++_}
 use Prim.Native.Nat.{ℕ, _≤_}
 use native.Mathlib.Omega.{arith}
 use lib.ListN.{length, drop}
@@ -12,11 +12,9 @@ use Rattle.line.specs.declared.Reply.{Reply}
 use Rattle.line.specs.declared.Reply.the-variants.{Silence, Acknowledged, Message, Info, Bytes, Sum}
 use Rattle.line.specs.Replies.{readBackMost, replyBytes, Sent, sent, sentOf}
 use Rattle.line.proofs.ReplyLaws.{nothing-sent, sent-fits, reply-is-sent}
-use Rattle.session_judge.specs.declared.Effect.{Effect}
-use Rattle.session_judge.specs.declared.Effect.the-variants.{Say, TellInfo, Strike, Perform}
-use Rattle.session_judge.proofs.EffectTests.{isPerformed}
-use Rattle.flash.specs.Memory.{Memory}
-use Rattle.session_send.specs.Answering.{withoutCore, hushed, bytesAsked, answerOf}
+use Rattle.flash.specs.declared.Place.{Place}
+use Rattle.flash.specs.Memory.{Memory, bytesAt}
+use Rattle.session_send.specs.Answering.{withoutCore, hushed, answerOf}
 
 -- ---- silent commands
 
@@ -42,11 +40,11 @@ module _ (packet : List ℕ) where
 -- ---- silence
 
 -- where nothing is to be said nothing is sent, whatever the command
-pub silence-sends-nothing : (effect : Effect) (packet : List ℕ) (mainSize : ℕ) (memory : Memory) (area : List ℕ)
-    → answerOf effect Silence packet mainSize memory area ≡ sent 0 area
+pub silence-sends-nothing : (place : Place) (count : ℕ) (packet : List ℕ) (memory : Memory) (area : List ℕ)
+    → answerOf Silence place count packet memory area ≡ sent 0 area
 unfolding answerOf hushed replyBytes
-silence-sends-nothing effect packet mainSize memory area =
-    by-pick (λ reply. sentOf (replyBytes reply (bytesAsked mainSize memory effect)) area ≡ sent 0 area) (isSilent packet) Silence Silence
+silence-sends-nothing place count packet memory area =
+    by-pick (λ reply. sentOf (replyBytes reply (bytesAt place count memory)) area ≡ sent 0 area) (isSilent packet) Silence Silence
     (λ y. nothing-sent area) (λ n. nothing-sent area)
 
 -- ---- sizes
@@ -56,26 +54,17 @@ abbrev pub whole : List ℕ → List ℕ → Sent
 whole bytes area = sent (length bytes) (bytes ++ drop (length bytes) area)
 
 -- the bytes of an answer
-abbrev pub answerBytes : Effect → Reply → List ℕ → ℕ → Memory → List ℕ
-answerBytes effect reply packet mainSize memory = replyBytes (hushed packet reply) (bytesAsked mainSize memory effect)
+abbrev pub answerBytes : Reply → Place → ℕ → List ℕ → Memory → List ℕ
+answerBytes reply place count packet memory = replyBytes (hushed packet reply) (bytesAt place count memory)
 
-module _ (effect : Effect) (reply : Reply) (packet : List ℕ) (mainSize : ℕ) (memory : Memory) (area : List ℕ) where
+module _ (reply : Reply) (place : Place) (count : ℕ) (packet : List ℕ) (memory : Memory) (area : List ℕ) where
   -- no answer is longer than the area that 01 asks for, whatever is asked and answered
-  pub answer-fits : answerOf effect reply packet mainSize memory area .size ≤ replyLimit
+  pub answer-fits : answerOf reply place count packet memory area .size ≤ replyLimit
   unfolding answerOf
   answer-fits = sent-fits _ area
 
   -- "Read back of 1,720 bytes fits": in an area of 1,729 bytes an answer with no more bytes beside it is sent whole
-  pub answer-is-whole : length (bytesAsked mainSize memory effect) ≤ readBackMost → replyLimit ≤ length area
-      → answerOf effect reply packet mainSize memory area ≡ whole (answerBytes effect reply packet mainSize memory) area
+  pub answer-is-whole : length (bytesAt place count memory) ≤ readBackMost → replyLimit ≤ length area
+      → answerOf reply place count packet memory area ≡ whole (answerBytes reply place count packet memory) area
   unfolding answerOf
-  answer-is-whole few room = reply-is-sent (hushed packet reply) (bytesAsked mainSize memory effect) area few room
-
--- ---- what a locked board sends
-
--- no bytes of memory stand beside the reply
-pub no-bytes-asked : (mainSize : ℕ) (memory : Memory) (effect : Effect) → isPerformed effect ≡ false → bytesAsked mainSize memory effect ≡ []
-no-bytes-asked mainSize memory (Say reply) h = refl
-no-bytes-asked mainSize memory TellInfo h = refl
-no-bytes-asked mainSize memory Strike h = refl
-no-bytes-asked mainSize memory (Perform task) h = absurd (true≢false h)
+  answer-is-whole few room = reply-is-sent (hushed packet reply) (bytesAt place count memory) area few room

@@ -1,2 +1,2 @@
--- AnsweringLaws: what silent commands get, that silence sends nothing, that every answer fits, and that a locked board sends no bytes of memory.
+-- AnsweringLaws: what silent commands get, that silence sends nothing, and that every answer fits.
 pub mod AnsweringLaws

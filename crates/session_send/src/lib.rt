@@ -3,12 +3,11 @@ ghost use mathlib.Core.Path.{_≡_};
 ghost use Rattle.line.specs.Commands.{isSilent};
 ghost use Rattle.line.specs.Replies.{sent};
 ghost use Rattle.flash.specs.Memory.{memory};
-ghost use Rattle.session_send.specs.Answering.{withoutCore, hushed, bytesOfTask, bytesAsked, answerOf};
+ghost use Rattle.session_send.specs.Answering.{withoutCore, hushed, answerOf};
+use flash::Place;
 use line::CORE_AT;
-use line::Guarded;
 use line::Reply;
 use line::codes;
-use session_judge::Effect;
 
 // Only the 0x00 that a core reply would follow.
 fn without_core(reply: Reply) -> Reply
@@ -51,44 +50,24 @@ fn hush(packet: &[u8], reply: Reply) -> Reply
     reply
 }
 
-// The bytes that Read back asks for; no other command asks for any.
-fn bytes_of_task<'a>(task: Guarded, main_size: u32, main: &'a [u8], image: &'a [u8]) -> &'a [u8]
-    ensures { λ r. ⌜ now r ≡ bytesOfTask «main_size» (memory (now (main .entry)) (now (image .entry))) task ⌝ }
-{
-    let Guarded::ReadBack { address, size } = task else {
-        return octets::part_of(main, 0, 0);
-    };
-    let place = flash::locate(flash::mspm0(), main_size, address, size as u64);
-    let region = place.region;
-    flash::bytes_in(region, place.offset, size as usize, main, image)
-}
-
-fn bytes_asked<'a>(effect: Effect, main_size: u32, main: &'a [u8], image: &'a [u8]) -> &'a [u8]
-    ensures { λ r. ⌜ now r ≡ bytesAsked «main_size» (memory (now (main .entry)) (now (image .entry))) effect ⌝ }
-{
-    let Effect::Perform(task) = effect else {
-        return octets::part_of(main, 0, 0);
-    };
-    bytes_of_task(task, main_size, main, image)
-}
-
-// Writes what is sent of a reply to the start of an area, and answers its size. A reply for which there is no room, or of more than
-// 1,729 bytes, is not written at all, and the answer is 0.
+// Writes what is sent of a reply to the start of an area, and answers its size. The bytes that go with it are so many of a place that
+// was looked up before. A reply for which there is no room, or of more than 1,729 bytes, is not written at all, and the answer is 0.
 pub fn answer<'a>(
-    effect: Effect,
     reply: Reply,
+    place: Place,
+    count: u32,
     packet: &[u8],
-    main_size: u32,
     main: &'a [u8],
     image: &'a [u8],
     area: &mut [u8],
 ) -> usize
-    ensures { λ r. ⌜ sent r (now (area .exit)) ≡ answerOf effect reply (now (packet .entry)) «main_size» (memory (now (main .entry)) (now (image .entry))) (now (area .entry)) ⌝ }
+    ensures { λ r. ⌜ sent r (now (area .exit)) ≡ answerOf reply place count (now (packet .entry)) (memory (now (main .entry)) (now (image .entry))) (now (area .entry)) ⌝ }
 {
     if let Reply::Silence = reply {
         return 0;
     }
     let told = hush(packet, reply);
-    let bytes = bytes_asked(effect, main_size, main, image);
+    let region = place.region;
+    let bytes = flash::bytes_in(region, place.offset, count as usize, main, image);
     line::write_reply(told, bytes, area)
 }

@@ -31,6 +31,7 @@ use Rattle.settings.specs.Answers.{numbered, refusalNumbered, readTold, writeLe
 use Rattle.settings.specs.Reader.{readOf}
 use Rattle.settings.specs.Writer.{writeOf}
 use Rattle.flash.specs.declared.Part.{Part}
+use Rattle.flash.specs.declared.Place.{Place}
 use Rattle.flash.specs.declared.Region.{Region}
 use Rattle.flash.specs.Regions.{isMainSize, mspm0Part, placeOf}
 use Rattle.flash.specs.Memory.{memory, bytesIn}
@@ -38,8 +39,9 @@ use Rattle.flash.specs.Erasing.{eraseOf, eraseAllOf}
 use Rattle.flash.specs.Programming.{programOf}
 use Rattle.session_judge.specs.declared.Effect.{Effect}
 use Rattle.session_judge.specs.Hearing.{judgedOf}
-use Rattle.session_act.specs.Board.{acted, board}
-use Rattle.session_act.specs.Acting.{actOf}
+use Rattle.session_act.specs.declared.Order.{Order}
+use Rattle.session_act.specs.Orders.{carriedOut}
+use Rattle.session_act.specs.Acting.{planOf}
 use Rattle.session_send.specs.Answering.{answerOf}
 use Rattle.session.specs.declared.Session.{Session}
 use Rattle.session.specs.declared.StartAnswer.{StartAnswer}
@@ -216,18 +218,21 @@ judge-is-one standing alert wait packet right = as-said (judgedOf standing alert
 
 -- ---- session_act
 
-pub act-is-one : (effect : Effect) (shown : Shown) (protection : List ℕ) (mainSize : ℕ) (right : Bool) (packet main image : List ℕ)
-    → OneAnswer {A = Reply × List ℕ × List ℕ}
-    (λ r. acted (r .0) (memory (r .1) (r .2)) ≡ actOf (board mainSize shown protection) right packet (memory main image) effect)
-act-is-one effect shown protection mainSize right packet main image =
-    given-back (λ r. acted (r .0) (memory (r .1) (r .2))) (λ l. (l .reply, l .memory .main, l .memory .settings)) (λ r. refl)
-    (actOf (board mainSize shown protection) right packet (memory main image) effect)
+pub plan-is-one : (effect : Effect) (shown : Shown) (mainSize : ℕ) (right : Bool) (main image : List ℕ)
+    → OneAnswer (λ r. r ≡ planOf mainSize shown right (memory main image) effect)
+plan-is-one effect shown mainSize right main image = as-said (planOf mainSize shown right (memory main image) effect)
+
+pub carry-out-is-one : (order : Order) (shown : Shown) (protection packet main image : List ℕ)
+    → OneAnswer {A = List ℕ × List ℕ} (λ r. memory (r .0) (r .1) ≡ carriedOut shown protection packet (memory main image) order)
+carry-out-is-one order shown protection packet main image =
+    given-back (λ r. memory (r .0) (r .1)) (λ after. (after .main, after .settings)) (λ r. refl)
+    (carriedOut shown protection packet (memory main image) order)
 
 -- ---- session_send
 
-pub answer-is-one : (effect : Effect) (reply : Reply) (packet : List ℕ) (mainSize : ℕ) (main image area : List ℕ)
-    → OneAnswer {A = ℕ × List ℕ} (λ r. sent (r .0) (r .1) ≡ answerOf effect reply packet mainSize (memory main image) area)
-answer-is-one effect reply packet mainSize main image area = sent-is-one (answerOf effect reply packet mainSize (memory main image) area)
+pub answer-is-one : (reply : Reply) (place : Place) (count : ℕ) (packet main image area : List ℕ)
+    → OneAnswer {A = ℕ × List ℕ} (λ r. sent (r .0) (r .1) ≡ answerOf reply place count packet (memory main image) area)
+answer-is-one reply place count packet main image area = sent-is-one (answerOf reply place count packet (memory main image) area)
 
 -- ---- session: its calls
 

@@ -14,7 +14,8 @@ use Rattle.flash.specs.Erasing.{eraseAllOf}
 use Rattle.flash.proofs.ErasingLaws.{erase-all-keeps-length, erase-all-at, erase-all-twice}
 use Rattle.session_judge.specs.Unlocking.{alertReset}
 use Rattle.session_act.specs.Board.{Board, board, sectorSize, settingsProtection}
-use Rattle.session_act.specs.Erasing.{allErased}
+use Rattle.session_act.specs.declared.Order.the-variants.{EraseBoth}
+use Rattle.session_act.specs.Orders.{carriedOut}
 use Rattle.session_act.specs.Info.{versionAt}
 use Rattle.session_act.proofs.LockedLaws.{erased-versions-alike}
 use Rattle.session.specs.declared.Session.{Session}
@@ -87,8 +88,9 @@ pub record Locked (images : Images) (standing : Standing) : Type 0 where
 
 module _ (images : Images) where
   -- a strike erases both images, whether it is the first or not
-  pub strike-erases : (struck : Bool) → allErased (lets images) (memoryThen images struck) ≡ memoryThen images true
-  strike-erases struck = ap₂ memory (struck-again _ _ _ struck) (struck-again _ _ _ struck)
+  pub strike-erases : (packet : List ℕ) (struck : Bool)
+      → carriedOut (settingsOf images .shown) (settingsOf images .protection) packet (memoryThen images struck) EraseBoth ≡ memoryThen images true
+  strike-erases packet struck = ap₂ memory (struck-again _ _ _ struck) (struck-again _ _ _ struck)
 
   -- what is claimed of a board's flash after a call
   pub flash-is-as-claimed : (standing : Standing) → Flash images (standing .wrong) (later images standing .memory)

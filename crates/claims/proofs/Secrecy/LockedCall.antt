@@ -21,14 +21,15 @@ use Rattle.session_judge.proofs.EffectTests.{isPerformed}
 use Rattle.session_judge.specs.Hearing.{judgedOf}
 use Rattle.session_judge.proofs.JudgeLaws.{wrong-never-unlocks, locked-performs-nothing, strikes-at-three}
 use Rattle.session_judge.proofs.StrangerLaws.{only-unlock-is-compared, no-third-without-strike}
+use Rattle.session_act.specs.declared.Planned.{Planned}
 use Rattle.session_act.specs.Board.{Acted}
-use Rattle.session_act.proofs.LockedLaws.{only-strikes-change}
+use Rattle.session_act.proofs.LockedLaws.{locked-shows-nothing, only-strikes-change}
 use Rattle.session_send.specs.Answering.{hushed, answerOf}
-use Rattle.session_send.proofs.AnsweringLaws.{whole, no-bytes-asked}
+use Rattle.session_send.proofs.AnsweringLaws.{whole}
 use Rattle.session.specs.CallAnswers.{Left, left, callTold}
-use Rattle.session.specs.Calling.{judgement, deed, carriedOut, serveOf}
+use Rattle.session.specs.Calling.{carriesReset, judgement, intent, deed, followed, serveOf}
 use Rattle.session.proofs.RecordLaws.{record-by-clauses}
-use Rattle.session.proofs.ToldLaws.{act-is-told-whole}
+use Rattle.session.proofs.ToldLaws.{plan-is-told-whole}
 use Rattle.claims.specs.TwoBoards.{Images, settingsOf, Carries, Sending, called, next, isStruck}
 use Rattle.claims.proofs.Sessions.CallRules.{not-found, valid-is-served, valid-stays-valid}
 use Rattle.claims.proofs.Secrecy.LockedBoard.{alertOf, lets, memoryThen, sessionThen, later, HasRecord, Locked, strike-erases}
@@ -85,7 +86,7 @@ module _ (images : Images) (standing : Standing) (locked : Locked images standin
   memory-follows : deedThen images standing sending (decided .effect) .memory ≡ later images (decided .standing) .memory
   memory-follows =
       only-strikes-change (lets images) _ (sending .packet) _ (λ left. left ≡ later images (decided .standing) .memory) (decided .effect) performs-nothing
-      (λ e. strike-erases images _ ∙ ap (memoryThen images) (sym (strike-is-counted e)))
+      (λ e. strike-erases images (sending .packet) _ ∙ ap (memoryThen images) (sym (strike-is-counted e)))
       (λ none. ap (memoryThen images) (sym (count-is-kept none)))
 
   -- ---- the call
@@ -99,20 +100,25 @@ module _ (images : Images) (standing : Standing) (locked : Locked images standin
     abbrev does : Acted
     does = deedThen images standing sending (decided .effect)
 
+    abbrev plans : Planned
+    plans = intent (sessionThen images standing) (sending .packet) (later images standing .memory) (decided .effect)
+
     -- the reply is sent whole, with no bytes of memory beside it
-    told-whole : answerOf (decided .effect) (does .reply) (sending .packet) (length (images .main)) (does .memory) area
+    told-whole : answerOf (does .reply) (plans .place) (plans .count) (sending .packet) (does .memory) area
         ≡ whole (bytesThen images standing sending (decided .effect)) area
     told-whole =
-        act-is-told-whole (lets images) _ (sending .packet) _ (does .memory) area room (decided .effect)
+        let right = carriesReset (sessionThen images standing) (sending .packet) in
+        let before = later images standing .memory in
+        plan-is-told-whole (length (images .main)) (settingsOf images .shown) right before (does .memory) (decided .effect) (sending .packet) area room
         ∙ ap (λ (beside : List ℕ). whole (replyBytes (hushed (sending .packet) (does .reply)) beside) area)
-        (no-bytes-asked (length (images .main)) (does .memory) (decided .effect) performs-nothing)
+        (locked-shows-nothing (length (images .main)) (settingsOf images .shown) right before (does .memory) (decided .effect) performs-nothing)
 
     -- all that the call leaves follows from the verdict
     pub call-is : called (later images standing) sending area ≡ leftThen images standing sending area (verdict images standing sending)
     unfolding serveOf
     call-is =
         valid-is-served (sessionThen images standing) (later images standing .memory) (sending .wait) (sending .packet) area (locked .valid) room
-        ∙ ap (carriedOut (sessionThen images standing) (later images standing .memory) (sending .packet) area) judged-as-wrong
+        ∙ ap (followed (sessionThen images standing) (later images standing .memory) (sending .packet) area) judged-as-wrong
         ∙ ap₂ (λ (sent : Sent) (after : Memory). left (callTold 0 (sent .size) (decided .burn)) (sessionThen images (decided .standing)) after (sent .area))
         told-whole memory-follows
 

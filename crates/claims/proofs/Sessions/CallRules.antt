@@ -15,9 +15,10 @@ use Rattle.line.specs.Packet.{passwordIn}
 use Rattle.line.specs.declared.Command.the-variants.{Unlock}
 use Rattle.line.specs.Acknowledgement.{isRate, acknowledgement}
 use Rattle.line.specs.Commands.{commandOf}
+use Rattle.line.specs.Replies.{replyBytes, sentOf}
 use Rattle.line.proofs.PacketLaws.{unlock-is-password}
 use Rattle.session_state.specs.declared.Phase.the-variants as phase
-use Rattle.session_state.specs.Phases.{atStart, mostWrong, isValid}
+use Rattle.session_state.specs.Phases.{atStart, mostWrong, isUnlocked, isValid}
 use Rattle.session_state.specs.Waits.{passTime}
 use Rattle.session_state.proofs.PhaseLaws.{valid-by-parts, start-is-valid}
 use Rattle.session_state.proofs.WaitLaws.{long-wait-is-heard}
@@ -28,10 +29,16 @@ use Rattle.settings.specs.Bodies.{bodyIn, shownIn, settingsIn}
 use Rattle.settings.specs.Answers.{ReadTold, numbered}
 use Rattle.settings.specs.Reader.{isBlank, checksumDiffers, formUnknown, fillerDiffers, valueNotAllowed, readWritten, readOf}
 use Rattle.flash.specs.Memory.{Memory}
+use Rattle.session_judge.specs.declared.Effect.{Effect}
 use Rattle.session_judge.specs.declared.Judged.{Judged}
-use Rattle.session_judge.proofs.JudgeLaws.{judge-keeps-valid, wrong-count-rises}
+use Rattle.session_judge.proofs.JudgeLaws.{judge-keeps-valid, wrong-count-rises, locked-performs-nothing}
 use Rattle.session_judge.proofs.StrangerLaws.{only-unlock-is-compared}
+use Rattle.session_act.specs.declared.Order.the-variants.{Keep, EraseBoth}
+use Rattle.session_act.specs.declared.Planned.{Planned}
+use Rattle.session_act.proofs.PlanLaws.{bytes-need-no-order}
 use Rattle.session_act.proofs.ActingLaws.{act-keeps-lengths}
+use Rattle.session_act.proofs.LockedLaws.{isStrike, locked-orders}
+use Rattle.session_send.specs.Answering.{hushed, answerOf}
 use Rattle.session.specs.declared.Session.{Session}
 use Rattle.session.specs.StartAnswers.{StartTold}
 use Rattle.session.specs.CallAnswers.{Left}
@@ -39,7 +46,7 @@ use Rattle.octets.specs.Alike.{areSame}
 use Rattle.flash.specs.Regions.{isMainSize}
 use Rattle.session.specs.Records.{isRecord}
 use Rattle.session.specs.Starting.{sessionOf, noSession, startRead, startOf}
-use Rattle.session.specs.Calling.{boardOf, judgement, serveOf, callOf}
+use Rattle.session.specs.Calling.{boardOf, carriesReset, judgement, intent, deed, serveOf, callOf}
 use Rattle.session.proofs.CallLaws.{every-call}
 use Rattle.octets.proofs.AlikeLaws.{same-are-equal}
 use Rattle.session.proofs.RecordLaws.{record-by-clauses, clauses-make-record}
@@ -118,6 +125,28 @@ module _ (session : Session) (before : Memory) (wait : ℕ) (packet area : List 
       → passTime (session .standing) wait .heard ≡ true
   long-wait-drops-nothing unlocked sleep valid phase long =
       long-wait-is-heard (session .standing) wait unlocked sleep (record-by-clauses session _ _ valid .standing) phase long
+
+  -- ---- what is decided of the packet is planned, and then done
+
+  abbrev effect : Effect
+  effect = judgement session wait packet .effect
+
+  abbrev plans : Planned
+  plans = intent session packet before effect
+
+  -- no reply depends on memory after the order: written before it or after it, what is sent is the same
+  pub answer-needs-no-order : answerOf (plans .reply) (plans .place) (plans .count) packet (deed session packet before effect .memory) area
+      ≡ answerOf (plans .reply) (plans .place) (plans .count) packet before area
+  unfolding answerOf
+  answer-needs-no-order =
+      ap (λ (beside : List ℕ). sentOf (replyBytes (hushed packet (plans .reply)) beside) area)
+      (bytes-need-no-order (session .settings .shown) (session .settings .protection) packet before (session .«main_size») (carriesReset session packet) effect)
+
+  -- a locked session orders nothing to be done to memory, or what the alert's reset does
+  pub locked-session-orders : isUnlocked (session .standing .phase) ≡ false → plans .order ≡ pick (isStrike effect) EraseBoth Keep
+  locked-session-orders shut =
+      locked-orders (session .«main_size») (session .settings .shown) (carriesReset session packet) before effect
+      (locked-performs-nothing (session .standing) (session .settings .shown .alert) wait packet _ shut)
 
 -- ---- start
 

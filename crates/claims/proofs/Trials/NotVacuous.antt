@@ -22,7 +22,7 @@ use Rattle.session_judge.specs.Unlocking.{afterRight, countedUp, afterWrong, as
 use Rattle.session_act.specs.Board.{sectorSize}
 use Rattle.session.specs.CallAnswers.{Left}
 use Rattle.octets.specs.Alike.{areSame}
-use Rattle.session.specs.Calling.{carriedOut}
+use Rattle.session.specs.Calling.{followed}
 use Rattle.octets.proofs.AlikeLaws.{equal-are-same}
 use Rattle.claims.proofs.Secrecy.LockedBoard.{sessionThen, later}
 use Rattle.claims.proofs.Trials.SomePackets.{stood}
@@ -124,7 +124,7 @@ each-held-something password byte = (refl, refl, refl)
 -- a board once its caller was told a message
 abbrev told : Images → Standing → ℕ → Left
 told images standing code =
-    carriedOut (sessionThen images (stood 0 0)) (later images (stood 0 0) .memory) (unlocks 0xFF .packet) (unlocks 0xFF .oneArea)
+    followed (sessionThen images (stood 0 0)) (later images (stood 0 0) .memory) (unlocks 0xFF .packet) (unlocks 0xFF .oneArea)
     (says standing (Message code))
 
 blank-opens : toBlankPassword blankBoard ≡ told blankBoard (afterRight (stood 0 0)) success

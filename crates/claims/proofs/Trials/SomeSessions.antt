@@ -22,10 +22,10 @@ use Rattle.session_state.specs.Phases.{mostSleep, atStart}
 use Rattle.settings.specs.declared.Settings.{Settings}
 use Rattle.settings.specs.Answers.{ReadTold}
 use Rattle.flash.specs.Memory.{Memory, memory}
+use Rattle.flash.specs.Regions.{nowhere}
 use Rattle.flash.specs.Protection.{isProtected, mayChange}
 use Rattle.flash.specs.Erasing.{eraseAllOf}
 use Rattle.flash.proofs.ErasingLaws.{erase-all-keeps-length, erase-all-of-open, erase-all-of-protected, erase-all-in-one-sector}
-use Rattle.session_judge.specs.declared.Effect.the-variants.{Say}
 use Rattle.session_judge.specs.Judgement.{says}
 use Rattle.session_judge.specs.Unlocking.{alertReset, tried}
 use Rattle.session_judge.specs.Hearing.{judgedOf}
@@ -34,7 +34,7 @@ use Rattle.session_send.specs.Answering.{hushed}
 use Rattle.session_send.proofs.AnsweringLaws.{others-are-told, answer-is-whole}
 use Rattle.session.specs.declared.Session.{Session}
 use Rattle.octets.specs.Alike.{areSame}
-use Rattle.session.specs.Calling.{carriedOut, serveOf}
+use Rattle.session.specs.Calling.{followed, serveOf}
 use Rattle.session.proofs.RecordLaws.{record-by-clauses}
 use Rattle.claims.specs.TwoBoards.{Images, Running, settingsOf, started, Carries, Sending, called, next, replied, isStruck}
 use Rattle.claims.specs.Trials.{mainSize, chosen, resetBoard, strictBoard, guardedBoard, secondFF, allFF, connects, unlocks, twoGuesses, threeGuesses, ran}
@@ -102,7 +102,7 @@ module _ (images : Images) (settings : Settings) (good : Good images settings) w
     -- it is tried, by whether it has the password
     pub unlock-is-tried : (right : Bool) → areSame (settings .password) (replicate 32 byte) ≡ right
         → called (ran (started images) (connects ∷ [])) (unlocks byte) (unlocks byte .oneArea)
-        ≡ carriedOut (sessionThen images (stood 0 0)) (later images (stood 0 0) .memory) (unlocks byte .packet) (unlocks byte .oneArea)
+        ≡ followed (sessionThen images (stood 0 0)) (later images (stood 0 0) .memory) (unlocks byte .packet) (unlocks byte .oneArea)
         (tried (stood 0 0) (alertOf images) right)
     unfolding serveOf
     unlock-is-tried right compared =
@@ -110,19 +110,19 @@ module _ (images : Images) (settings : Settings) (good : Good images settings) w
         let bit = ap₂ areSame (ap (λ (told : ReadTold). told .settings .password) (good .read)) (ap (drop 1) core) ∙ compared in
         ap (λ (board : Running). called board (unlocks byte) (unlocks byte .oneArea)) (connected .so)
         ∙ valid-is-served (sessionThen images (stood 0 0)) _ 2000 (unlocks byte .packet) (unlocks byte .oneArea) (connected .locked .valid) (room 0)
-        ∙ ap (carriedOut (sessionThen images (stood 0 0)) _ (unlocks byte .packet) (unlocks byte .oneArea))
+        ∙ ap (followed (sessionThen images (stood 0 0)) _ (unlocks byte .packet) (unlocks byte .oneArea))
         (ap (judgedOf (stood 0 0) (alertOf images) 2000 (unlocks byte .packet)) bit ∙ tried-awake byte small 0 (alertOf images) right)
 
 -- the message that an Unlock gets is the sixth byte of its reply
 module _ (session : Session) (before : Memory) (byte code : ℕ) (standing : Standing) where
   abbrev reply : List ℕ
-  reply = replied (carriedOut session before (unlocks byte .packet) (unlocks byte .oneArea) (says standing (Message code)))
+  reply = replied (followed session before (unlocks byte .packet) (unlocks byte .oneArea) (says standing (Message code)))
 
   reply-is-message : reply ≡ replyBytes (Message code) []
   unfolding bytesOf isOneOf pick
   reply-is-message =
       ap (λ (sent : Sent). take (sent .size) (sent .area))
-      (answer-is-whole (Say (Message code)) (Message code) (unlocks byte .packet) (session .«main_size») before (unlocks byte .oneArea) (omega arith) (room 0))
+      (answer-is-whole (Message code) nowhere 0 (unlocks byte .packet) before (unlocks byte .oneArea) (omega arith) (room 0))
       ∙ take-append-seam (replyBytes (hushed (unlocks byte .packet) (Message code)) []) _
       ∙ ap (λ (reply : Reply). replyBytes reply []) (others-are-told (unlocks byte .packet) (Message code) refl)
 

@@ -1,4 +1,4 @@
--- `session_send::answer` meets its contract: nothing of silence; else what is left of the reply, with the bytes asked for.
+-- `session_send::answer` meets its contract: nothing of silence; else what is left of the reply, with the bytes of the place.
 use mathlib.Core.Path.{sym}
 use borrow.Author.Needs.{needs}
 use Rattle.session_send.specs.Answering.{answerOf}
@@ -11,7 +11,7 @@ returns c = rw (c .enum-told .given .1) (sym (silence-sends-nothing _ _ _ _ _))
 
 returns-2 : tie.Need-returns-2
 unfolding answerOf
-returns-2 c = rw (c .before .before .write-reply .ensures, c .before .before .before .before .before .hush .ensures, c .before .before .before .before .bytes-asked .ensures)
+returns-2 c = rw (c .before .before .write-reply .ensures, c .before .before .before .before .before .hush .ensures, c .before .before .before .before .bytes-in .ensures)
 
 pub answer-spec : {M : Type 1} → statement M
 answer-spec =

@@ -1,4 +1,4 @@
--- `session::passwords::resets` meets its contract: what is no Factory reset is done alike, and for one the password is compared.
+-- `session::passwords::resets` meets its contract: what is no Factory reset is planned alike, and for one the password is compared.
 use mathlib.Core.Path.{_≡_, refl}
 use mathlib.Core.Bool.{Bool, false}
 use mathlib.Core.List.{List, [], _∷_}
@@ -15,8 +15,8 @@ use Rattle.session_judge.specs.declared.Effect.{Effect}
 use Rattle.session_judge.specs.declared.Effect.the-variants.{Say, TellInfo, Strike, Perform}
 use Rattle.session_judge.proofs.Effect as effect-type
 use Rattle.flash.specs.Memory.{Memory}
-use Rattle.session_act.specs.Board.{Board}
-use Rattle.session_act.specs.Acting.{performed, actOf}
+use Rattle.settings.specs.declared.Shown.{Shown}
+use Rattle.session_act.specs.Acting.{taskPlanned, planOf}
 use Rattle.session.proofs.passwords.resets.Statement.{statement}
 use Rattle.session.proofs.passwords.resets.Tie as tie
 
@@ -27,39 +27,36 @@ unperformed = 0 ∷ 1 ∷ 2 ∷ []
 abbrev others : List ℕ
 others = 0 ∷ 1 ∷ 2 ∷ 3 ∷ 4 ∷ 6 ∷ []
 
-module _ (board : Board) (one other : Bool) (packet : List ℕ) (before : Memory) where
-  done-alike : (effect : Effect) → OneOf unperformed (tagOf effect-type.the-type effect)
-      → actOf board one packet before effect ≡ actOf board other packet before effect
-  done-alike (Say reply) h = refl
-  done-alike TellInfo h = refl
-  done-alike Strike h = refl
-  done-alike (Perform task) h = absurd (miss unperformed 3 tt h)
+module _ (mainSize : ℕ) (shown : Shown) (one other : Bool) (before : Memory) where
+  planned-alike : (effect : Effect) → OneOf unperformed (tagOf effect-type.the-type effect)
+      → planOf mainSize shown one before effect ≡ planOf mainSize shown other before effect
+  planned-alike (Say reply) h = refl
+  planned-alike TellInfo h = refl
+  planned-alike Strike h = refl
+  planned-alike (Perform task) h = absurd (miss unperformed 3 tt h)
 
-  performed-alike : (task : Guarded) → OneOf others (tagOf guarded-type.the-type task)
-      → performed board one packet before task ≡ performed board other packet before task
-  performed-alike (guarded.RangeErase start end) h = refl
-  performed-alike guarded.MassErase h = refl
-  performed-alike (guarded.Program address size silent) h = refl
-  performed-alike (guarded.ReadBack address size) h = refl
-  performed-alike (guarded.Verify address size) h = refl
-  performed-alike (guarded.FactoryReset with) h = absurd (miss others 5 tt h)
-  performed-alike guarded.WrongLength h = refl
+  task-alike : (task : Guarded) → OneOf others (tagOf guarded-type.the-type task)
+      → taskPlanned mainSize shown one before task ≡ taskPlanned mainSize shown other before task
+  task-alike (guarded.RangeErase start end) h = refl
+  task-alike guarded.MassErase h = refl
+  task-alike (guarded.Program address size silent) h = refl
+  task-alike (guarded.ReadBack address size) h = refl
+  task-alike (guarded.Verify address size) h = refl
+  task-alike (guarded.FactoryReset with) h = absurd (miss others 5 tt h)
+  task-alike guarded.WrongLength h = refl
 
 returns : tie.Need-returns
-returns c board before =
-    let args = c .before .before .before .args in
-    done-alike board _ _ (args .packet .now) before (args .effect) (c .match .keys2)
+returns c mainSize shown before = planned-alike mainSize shown _ _ before (c .before .before .before .args .effect) (c .match .keys2)
 
 returns-2 : tie.Need-returns-2
-returns-2 c board before =
+returns-2 c mainSize shown before =
     let told = c .before .before .effect .given in
     let args = c .before .before .before .before .before .before .args in
-    let packet = args .packet .now in
-    let right = areSame (args .password .now) (resetPasswordIn packet) in
-    rw (told .1) (performed-alike board false right packet before (told .0 .0) (c .match2 .keys2))
+    let right = areSame (args .password .now) (resetPasswordIn (args .packet .now)) in
+    rw (told .1) (task-alike mainSize shown false right before (told .0 .0) (c .match2 .keys2))
 
 returns-3 : tie.Need-returns-3
-returns-3 c board before = rw (c .are-same .ensures, c .before .part-of .ensures)
+returns-3 c mainSize shown before = rw (c .are-same .ensures, c .before .part-of .ensures)
 
 pub resets-spec : {M : Type 1} → statement M
 resets-spec =

@@ -1,4 +1,4 @@
--- `session_act::erasing::range_erase` meets its contract: refused where the range is turned round or not in MAIN, else MAIN is erased.
+-- `session_act::erasing::range_erase` meets its contract: the tests of the definition, one after the other.
 use borrow.Author.Tests.{lt-ltb, le-ltb}
 use Rattle.octets.specs.Choice.{pick}
 use Rattle.session_act.specs.Erasing.{rangeErase}
@@ -12,12 +12,13 @@ unfolding rangeErase pick
 range-erase-spec =
     tie.close
     (tie.spec
-    (λ c shown image. rw (lt-ltb _ _ (c .if1 .taken)))
+    (λ c. search needs)
+    (λ c. rw (lt-ltb _ _ (c .before .if1 .taken), c .tells .ensures))
     (λ c. search needs)
     (λ c. search needs)
-    (λ c κs. search needs)
     (λ c. search needs)
-    (λ c shown image. rw (le-ltb _ _ (c .before .before .if1 .left), ← c .before .locate .ensures, not-main _ _ _ _ _ (c .match .keys2)))
-    (λ c κs. search needs)
     (λ c. search needs)
-    (λ c shown image. rw (le-ltb _ _ (c .before .before .before .before .before .before .before .if1 .left), ← c .before .before .before .before .before .before .locate .ensures, c .before .before .before .before .enum-told .given .1, c .before .before .erase .ensures)))
+    (λ c. search needs)
+    (λ c. rw (le-ltb _ _ (c .before .before .before .if1 .left), ← c .before .before .locate .ensures, not-main _ _ _ (c .before .match .keys2), c .tells2 .ensures))
+    (λ c. search needs)
+    (λ c. rw (le-ltb _ _ (c .before .before .before .before .if1 .left), ← c .before .before .before .locate .ensures, c .before .enum-told .given .1, c .orders .ensures)))

@@ -1,9 +1,8 @@
--- `session_act::programming::program` meets its contract: by the region that holds the range, each with its own protection.
-use mathlib.Core.List.{List}
-use Prim.Native.Nat.{ℕ}
+-- `session_act::programming::program` meets its contract: the tests of the definition, one after the other.
+use borrow.Author.Tests.{not-true, not-false}
 use Rattle.octets.specs.Choice.{pick}
-use Rattle.flash.specs.Memory.{memory}
 use Rattle.session_act.specs.Programming.{programAt}
+use Rattle.session_act.proofs.RegionTests.{not-outside}
 use borrow.Author.Needs.{needs}
 use Rattle.session_act.proofs.programming.program.Statement.{statement}
 use Rattle.session_act.proofs.programming.program.Tie as tie
@@ -13,15 +12,13 @@ unfolding programAt pick
 program-spec =
     tie.close
     (tie.spec
-    (λ c κs. search needs)
-    (λ c. search needs)
-    (λ c κs. search needs)
     (λ c. search needs)
     (λ c. search needs)
-    (λ c κs. search needs)
+    (λ c. search needs)
+    (λ c. rw (← c .before .before .before .locate .ensures, c .before .enum-told .given .1, c .tells .ensures))
     (λ c. search needs)
     (λ c. search needs)
-    (λ c. rw (← c .before .before .before .before .before .before .locate .ensures, c .before .before .before .before .enum-told .given .1) (c .before .before .program-region .ensures (λ (l : List ℕ). memory l (c .before .before .before .before .before .before .before .before .before .before .before .args .image .now))))
+    (λ c. rw (← c .before .before .before .before .locate .ensures, not-outside _ (c .before .before .before .match .keys2), ← c .before .before .is-aligned .ensures, not-true (c .before .before .is-aligned .result) (c .before .if1 .taken), c .tells2 .ensures))
     (λ c. search needs)
-    (λ c. rw (← c .before .before .before .before .before .before .before .locate .ensures, c .before .before .before .before .before .enum-told2 .given .1) (c .before .before .program-region2 .ensures (λ (l : List ℕ). memory (c .before .before .before .before .before .before .before .before .before .before .before .before .args .main .now) l)))
-    (λ c. rw (← c .before .before .locate .ensures, c .enum-told3 .given .1)))
+    (λ c. search needs)
+    (λ c. rw (← c .before .before .before .before .before .locate .ensures, not-outside _ (c .before .before .before .before .match .keys2), ← c .before .before .before .is-aligned .ensures, not-false (c .before .before .before .is-aligned .result) (c .before .before .if1 .left), c .orders .ensures, c .before .program-in .ensures)))

@@ -1,0 +1,111 @@
+-- What a plan can be, and that no reply depends on memory after the order.
+use mathlib.Core.Path.{_≡_, refl, ap}
+use mathlib.Core.Bool.{Bool}
+use mathlib.Core.List.{List}
+use Prim.Native.Nat.{ℕ, _+_, _-_, _≤_}
+use borrow.Author.Tests.{ltb-false}
+use lib.Dec.{ltb, eqb}
+use Rattle.octets.proofs.Searching.{by-pick}
+use Rattle.line.specs.declared.Guarded.{Guarded}
+use Rattle.line.specs.declared.Guarded.the-variants as guarded
+use Rattle.line.specs.declared.Reply.{Reply}
+use Rattle.line.specs.declared.Reply.the-variants.{Bytes}
+use Rattle.line.specs.Replies.{readBackMost, replyBytes}
+use Rattle.session_judge.specs.declared.Effect.{Effect}
+use Rattle.session_judge.specs.declared.Effect.the-variants.{Say, TellInfo, Strike, Perform}
+use Rattle.settings.specs.declared.Shown.{Shown}
+use Rattle.flash.specs.declared.Region.{Region}
+use Rattle.flash.specs.declared.Region.the-variants.{Main, Settings, Outside}
+use Rattle.flash.specs.declared.Place.{Place}
+use Rattle.flash.specs.Regions.{mspm0Part, nowhere, placeOf}
+use Rattle.flash.specs.Memory.{Memory, bytesAt}
+use Rattle.session_act.specs.declared.Order.{Order}
+use Rattle.session_act.specs.declared.Order.the-variants.{Keep}
+use Rattle.session_act.specs.declared.Planned.{Planned}
+use Rattle.session_act.specs.Orders.{carriedOut}
+use Rattle.session_act.specs.Plans.{planned}
+use Rattle.session_act.specs.Erasing.{rangeEraseIn, rangeErase, modeOff, modeWithPassword, lacksResetPassword, factoryReset}
+use Rattle.session_act.specs.Programming.{isOutside, isAligned, programAt}
+use Rattle.session_act.specs.Showing.{readoutOn, readBackAt}
+use Rattle.session_act.specs.Acting.{taskPlanned, planOf}
+
+-- ---- a plan shows no byte of memory, or it keeps memory
+
+module _ (P : Planned → Type 0) (shows-none : (reply : Reply) (order : Order) → P (planned reply order nowhere 0))
+    (keeps : (place : Place) (size : ℕ) → size ≤ readBackMost → P (planned Bytes Keep place size)) where
+  erase-in : (start end : ℕ) (region : Region) → P (rangeEraseIn start end region)
+  erase-in start end Main = shows-none _ _
+  erase-in start end Settings = shows-none _ _
+  erase-in start end Outside = shows-none _ _
+
+  range-erase : (mainSize start end : ℕ) → P (rangeErase mainSize start end)
+  unfolding rangeErase
+  range-erase mainSize start end =
+      by-pick P (ltb end start) _ _ (λ y. shows-none _ _) (λ n. erase-in start end (placeOf mspm0Part mainSize start (end - start + 1) .region))
+
+  program : (address size : ℕ) (place : Place) → P (programAt address size place)
+  unfolding programAt
+  program address size place =
+      by-pick P (isOutside (place .region)) _ _ (λ y. shows-none _ _)
+      (λ n. by-pick P (isAligned address size) _ _ (λ y. shows-none _ _) (λ n. shows-none _ _))
+
+  read-back : (readout size : ℕ) (place : Place) → P (readBackAt readout size place)
+  unfolding readBackAt
+  read-back readout size place =
+      by-pick P (eqb readout readoutOn) _ _
+      (λ on. by-pick P (eqb size 0) _ _ (λ y. shows-none _ _)
+      (λ some. by-pick P (ltb readBackMost size) _ _ (λ y. shows-none _ _)
+      (λ few. by-pick P (isOutside (place .region)) _ _ (λ y. shows-none _ _) (λ n. keeps place size (ltb-false readBackMost size few)))))
+      (λ off. shows-none _ _)
+
+  reset : (mode : ℕ) (with right : Bool) → P (factoryReset mode with right)
+  unfolding factoryReset
+  reset mode with right =
+      by-pick P (eqb mode modeOff) _ _ (λ y. shows-none _ _)
+      (λ on. by-pick P (eqb mode modeWithPassword) _ _
+      (λ y. by-pick P (lacksResetPassword with right) _ _ (λ l. shows-none _ _) (λ h. shows-none _ _))
+      (λ n. shows-none _ _))
+
+  module _ (mainSize : ℕ) (shown : Shown) (right : Bool) (memory : Memory) where
+    every-task : (task : Guarded) → P (taskPlanned mainSize shown right memory task)
+    every-task (guarded.RangeErase start end) = range-erase mainSize start end
+    every-task guarded.MassErase = shows-none _ _
+    every-task (guarded.Program address size silent) = program address size (placeOf mspm0Part mainSize address size)
+    every-task (guarded.ReadBack address size) = read-back (shown .readout) size (placeOf mspm0Part mainSize address size)
+    every-task (guarded.Verify address size) = shows-none _ _
+    every-task (guarded.FactoryReset with) = reset (shown .«reset_mode») with right
+    every-task guarded.WrongLength = shows-none _ _
+
+    -- what holds of an answer without bytes, whatever is ordered, and of so many bytes beside no order holds of every plan
+    pub every-plan : (effect : Effect) → P (planOf mainSize shown right memory effect)
+    every-plan (Say reply) = shows-none _ _
+    every-plan TellInfo = shows-none _ _
+    every-plan Strike = shows-none _ _
+    every-plan (Perform task) = every-task task
+
+-- ---- so no reply depends on memory after the order
+
+-- the bytes of memory that go with a plan's reply
+abbrev pub bytesBeside : Memory → Planned → List ℕ
+bytesBeside memory planned = bytesAt (planned .place) (planned .count) memory
+
+-- the bytes of a plan's reply, those of memory among them
+abbrev pub repliedBy : Memory → Planned → List ℕ
+repliedBy memory planned = replyBytes (planned .reply) (bytesBeside memory planned)
+
+module _ (shown : Shown) (protection packet : List ℕ) (before : Memory) (mainSize : ℕ) (right : Bool) (effect : Effect) where
+  abbrev plans : Planned
+  plans = planOf mainSize shown right before effect
+
+  abbrev after : Memory
+  after = carriedOut shown protection packet before (plans .order)
+
+  -- the bytes that are shown are the same before the order is carried out and after it
+  pub bytes-need-no-order : bytesBeside after plans ≡ bytesBeside before plans
+  bytes-need-no-order =
+      every-plan (λ planned. bytesBeside (carriedOut shown protection packet before (planned .order)) planned ≡ bytesBeside before planned)
+      (λ reply order. refl) (λ place size few. refl) mainSize shown right before effect
+
+  -- so a reply can be written before its order is carried out, as a device does that hands the order to a driver
+  pub replies-need-no-order : repliedBy after plans ≡ repliedBy before plans
+  replies-need-no-order = ap (replyBytes (plans .reply)) bytes-need-no-order

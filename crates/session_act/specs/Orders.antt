@@ -1,0 +1,29 @@
+-- All that can be done to memory: 01, Commands, the sentences on what becomes of bytes.
+-- "Protected places keep their bytes in every erase and program": that stands in eraseOf, eraseAllOf and programOf.
+use Prim.Native.Nat.{ℕ, _/_}
+use mathlib.Core.List.{List}
+use Rattle.line.specs.Packet.{dataIn}
+use Rattle.settings.specs.declared.Shown.{Shown}
+use Rattle.flash.specs.Memory.{Memory, memory}
+use Rattle.flash.specs.Erasing.{eraseOf, eraseAllOf}
+use Rattle.flash.specs.Programming.{programOf}
+use Rattle.session_act.specs.declared.Order.{Order}
+use Rattle.session_act.specs.declared.Order.the-variants.{Keep, EraseBetween, EraseMain, EraseBoth, ProgramMain, ProgramSettings}
+use Rattle.session_act.specs.Board.{sectorSize, settingsProtection}
+
+-- what an order leaves; the data of a program are those of the packet
+abbrev pub carriedOut : Shown → List ℕ → List ℕ → Memory → Order → Memory
+carriedOut shown protection packet before Keep = before
+-- "Every sector from start's to end's becomes 0xFF"
+carriedOut shown protection packet before (EraseBetween start end) =
+    memory (eraseOf sectorSize protection (start / sectorSize) (end / sectorSize) (before .main)) (before .settings)
+-- "all MAIN"
+carriedOut shown protection packet before EraseMain = memory (eraseAllOf sectorSize protection (before .main)) (before .settings)
+-- "MAIN and settings become 0xFF"
+carriedOut shown protection packet before EraseBoth =
+    memory (eraseAllOf sectorSize protection (before .main)) (eraseAllOf sectorSize (settingsProtection shown) (before .settings))
+-- "Each byte becomes old AND new"
+carriedOut shown protection packet before (ProgramMain offset size) =
+    memory (programOf sectorSize protection offset (dataIn size packet) (before .main)) (before .settings)
+carriedOut shown protection packet before (ProgramSettings offset size) =
+    memory (before .main) (programOf sectorSize (settingsProtection shown) offset (dataIn size packet) (before .settings))

@@ -1,0 +1,66 @@
+// What was decided is planned. Memory is read, and not changed.
+ghost use mathlib.Core.Path.{_≡_};
+ghost use Rattle.flash.specs.Memory.{memory};
+ghost use Rattle.session_act.specs.Acting.{taskPlanned, planOf};
+use crate::Order;
+use crate::Planned;
+use crate::erasing;
+use crate::plans;
+use crate::programming;
+use crate::showing;
+use crate::telling;
+use line::Guarded;
+use line::codes;
+use session_judge::Effect;
+use settings::Shown;
+
+// A protected command of an unlocked session.
+fn plan_task<'a>(
+    task: Guarded,
+    shown: Shown,
+    main_size: u32,
+    right: bool,
+    main: &'a [u8],
+    image: &'a [u8],
+) -> Planned
+    ensures { λ r. ⌜ r ≡ taskPlanned «main_size» shown right (memory (now (main .entry)) (now (image .entry))) task ⌝ }
+{
+    match task {
+        Guarded::RangeErase { start, end } => erasing::range_erase(main_size, start, end),
+        Guarded::MassErase => plans::orders(codes::SUCCESS, Order::EraseMain),
+        Guarded::Program {
+            address,
+            size,
+            silent: _,
+        } => programming::program(main_size, address, size),
+        Guarded::ReadBack { address, size } => {
+            showing::read_back(shown.readout, main_size, address, size)
+        }
+        Guarded::Verify { address, size } => {
+            plans::says(showing::verify(main_size, address, size, main, image))
+        }
+        Guarded::FactoryReset { with_password } => {
+            erasing::factory_reset(shown.reset_mode, with_password, right)
+        }
+        Guarded::WrongLength => plans::tells(codes::WRONG_LENGTH),
+    }
+}
+
+// Plans what was decided of a packet. `right` is whether the packet carries the session's reset password.
+pub fn plan<'a>(
+    effect: Effect,
+    shown: Shown,
+    main_size: u32,
+    right: bool,
+    main: &'a [u8],
+    image: &'a [u8],
+) -> Planned
+    ensures { λ r. ⌜ r ≡ planOf «main_size» shown right (memory (now (main .entry)) (now (image .entry))) effect ⌝ }
+{
+    match effect {
+        Effect::Say(reply) => plans::says(reply),
+        Effect::TellInfo => plans::says(telling::info(shown, main)),
+        Effect::Strike => plans::orders(codes::ALERT_TAKEN, Order::EraseBoth),
+        Effect::Perform(task) => plan_task(task, shown, main_size, right, main, image),
+    }
+}
