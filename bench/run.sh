@@ -21,9 +21,9 @@ find_emulator() {
 build_timed() {
     timed=$work/timed
     mkdir -p $timed
-    compile_natively target/staticlib/c_boundary.bc $timed/c_boundary.o
+    compile_natively target/staticlib/c_mspm0.bc $timed/c_mspm0.o
     compile_natively "$exported_module" $timed/export.o
-    build_calls "$(uname -m)" $timed $timed/c_boundary.o
+    build_calls "$(uname -m)" $timed $timed/c_mspm0.o
     build_checksums "$(uname -m)" $timed $timed/export.o "$native_zlib"
 }
 

@@ -7,7 +7,7 @@
 PICTURE is docs/rooms.svg. To be run in the repository's root.
 
 The groups are the headings of crates.txt, and what is said of a room is the first sentence of the first comment in its src/lib.rt or
-src/main.rt, or else in its specs/Lib.antt. Below c_boundary, where a call comes in, lies the way of a call, which is drawn in blue. A
+src/main.rt, or else in its specs/Lib.antt. Below c_mspm0, where a call comes in, lies the way of a call, which is drawn in blue. A
 group without a room of that way stands at the side. An arrow from a room to one that it also reaches over another is left out.
 
 Status 0: all is well. 1: PICTURE is another, or a room stands on one that is listed after it, so that there is a way back up. 2: wrong
@@ -19,7 +19,7 @@ import pathlib
 import re
 import sys
 
-ENTRANCE = "c_boundary"
+ENTRANCE = "c_mspm0"
 WIDTH = 900
 MARGIN = 8
 # A band has its title at its left end, then the slots of its rooms; at the picture's right end stand the rooms of the side, and the

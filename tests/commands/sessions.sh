@@ -6,9 +6,13 @@ seen=0
 work=$(mktemp -d) || exit 1
 trap 'rm -rf "$work"' EXIT
 
-# The script in FILE prints what EXPECTED has, and the runner ends well.
+# The script in FILE prints what EXPECTED has, and playing it ends with 0, or with 1 where the script breaks the form.
 prints() { # WHAT FILE EXPECTED
-    tools/sessions/run_script.sh "$2" >"$work/printed" || complain "$1: the runner ended with status $?"
+    wanted=0
+    [ "$3" != "$work/refusal" ] || wanted=1
+    tools/sessions/run_script.sh "$2" >"$work/printed"
+    status=$?
+    [ "$status" -eq "$wanted" ] || complain "$1: status $status"
     cmp "$work/printed" "$3" || complain "$1: not what is expected"
 }
 

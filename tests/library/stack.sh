@@ -32,7 +32,7 @@ refuses last 'by a pointer' 'int f(int (*g)(void)) { return g(); }'
 refuses room 'no fixed size' 'void g(char *); void f(int n) { char room[n]; g(room); }'
 
 # A module in which a pointer is taken as a number is not compiled for a core whose pointers are shorter.
-sed '0,/^start:/s//start:\n  %n = ptrtoint ptr %a0 to i64/' target/stack/c_boundary.x86_64.ll >"$work/wrong.ll"
+sed '0,/^start:/s//start:\n  %n = ptrtoint ptr %a0 to i64/' target/stack/c_mspm0.x86_64.ll >"$work/wrong.ll"
 python3 -B stack/retarget.py "$work/wrong.ll" "$work/out.ll" 2>"$work/said" && complain "a pointer that is taken as a number passes"
 grep -q 'ptrtoint' "$work/said" || complain "the module is refused for another reason: $(cat "$work/said")"
 exit "$bad"

@@ -31,11 +31,11 @@ compile_crate() { # CRATE
 
 # The library, unless it is made of the crates as they stand.
 build_library() {
-    if tools/is_current.sh "$library" && tools/is_current.sh target/staticlib/c_boundary.bc; then
+    if tools/is_current.sh "$library" && tools/is_current.sh target/staticlib/c_mspm0.bc; then
         return 0
     fi
     mkdir -p target
-    find_compiler && make_keeping_kit && compile_crate c_boundary || return 1
+    find_compiler && make_keeping_kit && compile_crate c_mspm0 || return 1
     rm -f "$library"
-    $ar rcs "$library" target/staticlib/c_boundary.o
+    $ar rcs "$library" target/staticlib/c_mspm0.o
 }

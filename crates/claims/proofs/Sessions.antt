@@ -3,7 +3,7 @@
 pub mod CallRules
 -- ExactConnect: which eight bytes are answered in detect.
 pub mod ExactConnect
--- AsBefore: no call has moved with the landing of plans; it goes with the next landing.
+-- AsBefore: on the MSPM0 no call has moved with the landing of plans and parts; it goes with the next landing.
 pub mod AsBefore
 -- BitsBeyondMain: protection bits for sectors that MAIN does not have do nothing.
 pub mod BitsBeyondMain

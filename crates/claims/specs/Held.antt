@@ -6,7 +6,7 @@ use lib.ListN.{length, getD}
 use Rattle.settings.specs.declared.Shown.{Shown}
 use Rattle.settings.specs.declared.Settings.{Settings}
 use Rattle.session.specs.declared.Session.{Session}
-use Rattle.c_boundary.specs.Records.{sleepOf}
+use Rattle.c_records.specs.Records.{sleepOf}
 
 -- bytes: so many numbers below 256
 pub record Bytes (count : ℕ) (bytes : List ℕ) : Type 0 where

@@ -4,6 +4,7 @@ use mathlib.Core.Path.{_≡_}
 use mathlib.Core.List.{List, [], _∷_, _++_}
 use lib.ListN.{length, take, replicate}
 use Rattle.octets.specs.Number.{bytesOf}
+use Rattle.parts.specs.Parts.{mspm0}
 use Rattle.checksum.specs.Checksum.{checksumOf}
 use Rattle.line.specs.Codes.{commandHeader, replyLimit, connect, unlock}
 use Rattle.settings.specs.declared.Settings.{Settings}
@@ -11,14 +12,16 @@ use Rattle.settings.specs.Layout.{form1, imageSize}
 use Rattle.settings.specs.Image.{imageOf}
 use Rattle.flash.specs.Memory.{memory}
 use Rattle.session_judge.specs.Unlocking.{alertReset}
-use Rattle.session_act.specs.Board.{sectorSize}
 use Rattle.session.specs.CallAnswers.{Left}
 use Rattle.claims.specs.TwoBoards.{Images, Running, settingsOf, started, Sending, called, next}
 use Rattle.claims.specs.Visits.{Person, Seen}
 
 -- ---- boards
 
--- MAIN has two sectors
+-- of the MSPM0; MAIN has two sectors
+abbrev pub sectorSize : ℕ
+sectorSize = mspm0 .«sector_size»
+
 abbrev pub mainSize : ℕ
 mainSize = 2048
 
@@ -111,8 +114,8 @@ guesser (last ∷ seen) = unlocks 0x33
 -- a board after some calls, with the first area of each
 abbrev pub ran : Running → List Sending → Running
 ran board [] = board
-ran board (sending ∷ sendings) = ran (next (called board sending (sending .oneArea))) sendings
+ran board (sending ∷ sendings) = ran (next (called mspm0 board sending (sending .oneArea))) sendings
 
 -- what a board that was connected leaves where the password of a blank board is sent to it
 abbrev pub toBlankPassword : Images → Left
-toBlankPassword images = called (ran (started images) (connects ∷ [])) (unlocks 0xFF) (unlocks 0xFF .oneArea)
+toBlankPassword images = called mspm0 (ran (started mspm0 images) (connects ∷ [])) (unlocks 0xFF) (unlocks 0xFF .oneArea)

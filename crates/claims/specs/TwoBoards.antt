@@ -7,6 +7,7 @@ use mathlib.Core.List.{List, [], _∷_}
 use lib.Dec.{eqb}
 use lib.ListN.{length, getD, take}
 use Rattle.octets.specs.Choice.{pick}
+use Rattle.parts.specs.declared.Part.{Part}
 use Rattle.line.specs.Codes.{acknowledged, unlock, replyLimit}
 use Rattle.line.specs.Packet.{coreIn}
 use Rattle.line.specs.Acknowledgement.{acknowledgement}
@@ -17,7 +18,7 @@ use Rattle.settings.specs.Reader.{readOf}
 use Rattle.flash.specs.Memory.{Memory}
 use Rattle.flash.specs.Protection.{mayChange}
 use Rattle.session_judge.specs.Unlocking.{alertReset}
-use Rattle.session_act.specs.Board.{sectorSize, settingsProtection}
+use Rattle.session_act.specs.Board.{settingsProtection}
 use Rattle.session_act.specs.Info.{versionAt}
 use Rattle.session.specs.declared.Session.{Session}
 use Rattle.session.specs.CallAnswers.{Left}
@@ -39,15 +40,15 @@ pub record Running : Type 0 where
 abbrev pub settingsOf : Images → Settings
 settingsOf images = readOf form1 (images .settings) .settings
 
-abbrev pub started : Images → Running
-started images = record { session = startOf false (images .main) (images .settings) .session; memory = images }
+abbrev pub started : Part → Images → Running
+started part images = record { session = startOf part false (images .main) (images .settings) .session; memory = images }
 
 -- "take two boards of equal flash size that both start and whose good settings agree except in the two passwords. Their flash may differ
 -- anywhere but in the four published version bytes."
-pub record AlikeBoards (one other : Images) : Type 0 where
+pub record AlikeBoards (part : Part) (one other : Images) : Type 0 where
   -- "that both start", the fuse not being set
-  pub oneStarts : startOf false (one .main) (one .settings) .answer .number ≡ 0
-  pub otherStarts : startOf false (other .main) (other .settings) .answer .number ≡ 0
+  pub oneStarts : startOf part false (one .main) (one .settings) .answer .number ≡ 0
+  pub otherStarts : startOf part false (other .main) (other .settings) .answer .number ≡ 0
   -- "of equal flash size": that of MAIN; the settings flash of every board that starts has 1,024 bytes
   pub size : length (one .main) ≡ length (other .main)
   -- "whose good settings agree except in the two passwords": as the reader gives them
@@ -59,8 +60,8 @@ pub record AlikeBoards (one other : Images) : Type 0 where
 -- ---- a person without a password
 
 -- an "Unlock carrying" a password: it is acknowledged, and its core is the command byte and exactly that password
-pub record Carries (packet password : List ℕ) : Type 0 where
-  pub acknowledged : acknowledgement packet ≡ acknowledged
+pub record Carries (part : Part) (packet password : List ℕ) : Type 0 where
+  pub acknowledged : acknowledgement (part .«last_rate») packet ≡ acknowledged
   pub core : coreIn packet ≡ unlock ∷ password
 
 -- "Feed both the same waits and packets": one packet, sent to both after the same wait; each board's caller lends a reply area of its own
@@ -71,17 +72,17 @@ pub record Sending : Type 0 where
   pub otherArea : List ℕ
 
 -- "with reply areas large enough and no Unlock carrying either board's password"
-pub record WithoutPassword (one other : Images) (sending : Sending) : Type 0 where
-  pub notOne : Carries (sending .packet) (settingsOf one .password) → ⊥
-  pub notOther : Carries (sending .packet) (settingsOf other .password) → ⊥
+pub record WithoutPassword (part : Part) (one other : Images) (sending : Sending) : Type 0 where
+  pub notOne : Carries part (sending .packet) (settingsOf one .password) → ⊥
+  pub notOther : Carries part (sending .packet) (settingsOf other .password) → ⊥
   pub oneRoom : replyLimit ≤ length (sending .oneArea)
   pub otherRoom : replyLimit ≤ length (sending .otherArea)
 
 -- ---- what is claimed after every call
 
 -- what the call leaves of a board
-abbrev pub called : Running → Sending → List ℕ → Left
-called board sending area = callOf (board .session) (board .memory) (sending .wait) (sending .packet) area
+abbrev pub called : Part → Running → Sending → List ℕ → Left
+called part board sending area = callOf part (board .session) (board .memory) (sending .wait) (sending .packet) area
 
 -- "let nothing else write images or record": the next call finds what this one left
 abbrev pub next : Left → Running
@@ -103,14 +104,14 @@ AsClaimed sectorSize struck protection atStart left =
     → getD left place 0 ≡ pick (pick struck (mayChange sectorSize protection place) false) 0xFF (getD atStart place 0)
 
 -- both images of a board, after so many wrong passwords
-pub record Flash (board : Images) (wrong : ℕ) (left : Memory) : Type 0 where
+pub record Flash (part : Part) (board : Images) (wrong : ℕ) (left : Memory) : Type 0 where
   pub mainSize : length (left .main) ≡ length (board .main)
-  pub main : AsClaimed sectorSize (isStruck (settingsOf board .shown .alert) wrong) (settingsOf board .protection) (board .main) (left .main)
+  pub main : AsClaimed (part .«sector_size») (isStruck (settingsOf board .shown .alert) wrong) (settingsOf board .protection) (board .main) (left .main)
   pub settingsSize : length (left .settings) ≡ length (board .settings)
-  pub settings : AsClaimed sectorSize (isStruck (settingsOf board .shown .alert) wrong) (settingsProtection (settingsOf board .shown)) (board .settings) (left .settings)
+  pub settings : AsClaimed (part .«sector_size») (isStruck (settingsOf board .shown .alert) wrong) (settingsProtection (settingsOf board .shown)) (board .settings) (left .settings)
 
 -- all that two calls show at the port, how the sessions stand then, and what is left of flash
-pub record Alike (one other : Images) (oneLeft otherLeft : Left) : Type 0 where
+pub record Alike (part : Part) (one other : Images) (oneLeft otherLeft : Left) : Type 0 where
   -- no call is refused
   pub served : oneLeft .answer .number ≡ 0
   -- "Every reply is the same": refusal, length and burn, and the bytes
@@ -121,14 +122,14 @@ pub record Alike (one other : Images) (oneLeft otherLeft : Left) : Type 0 where
   -- "Neither unlocks."
   pub locked : isUnlocked (oneLeft .session .standing .phase) ≡ false
   -- what they can change
-  pub oneFlash : Flash one (oneLeft .session .standing .wrong) (oneLeft .memory)
-  pub otherFlash : Flash other (otherLeft .session .standing .wrong) (otherLeft .memory)
+  pub oneFlash : Flash part one (oneLeft .session .standing .wrong) (oneLeft .memory)
+  pub otherFlash : Flash part other (otherLeft .session .standing .wrong) (otherLeft .memory)
 
 -- "through one session": any finite list of calls, at every point of it. Visits has the words for a person who chooses each packet by the
 -- replies so far.
-abbrev pub AlikeThroughout : Images → Images → Running → Running → List Sending → Type 0
-AlikeThroughout one other oneNow otherNow [] = Unit
-AlikeThroughout one other oneNow otherNow (sending ∷ sendings) =
-    WithoutPassword one other sending
-    → Alike one other (called oneNow sending (sending .oneArea)) (called otherNow sending (sending .otherArea))
-    × AlikeThroughout one other (next (called oneNow sending (sending .oneArea))) (next (called otherNow sending (sending .otherArea))) sendings
+abbrev pub AlikeThroughout : Part → Images → Images → Running → Running → List Sending → Type 0
+AlikeThroughout part one other oneNow otherNow [] = Unit
+AlikeThroughout part one other oneNow otherNow (sending ∷ sendings) =
+    WithoutPassword part one other sending
+    → Alike part one other (called part oneNow sending (sending .oneArea)) (called part otherNow sending (sending .otherArea))
+    × AlikeThroughout part one other (next (called part oneNow sending (sending .oneArea))) (next (called part otherNow sending (sending .otherArea))) sendings

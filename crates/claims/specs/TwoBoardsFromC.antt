@@ -4,11 +4,12 @@ use Prim.Native.Nat.{ℕ, _%_, _<_}
 use mathlib.Core.Path.{_≡_}
 use mathlib.Core.List.{List, [], _∷_}
 use lib.ListN.{length, getD, take}
+use Rattle.parts.specs.declared.Part.{Part}
 use Rattle.flash.specs.Memory.{Memory}
-use Rattle.c_boundary.specs.OneNumber.{refusalUnit, burnUnit}
-use Rattle.c_boundary.specs.Stored.{Stored}
-use Rattle.c_boundary.specs.Records.{recordSize, fieldsAt}
-use Rattle.c_boundary.specs.Boundary.{startFromC, Called, callFromC}
+use Rattle.c_records.specs.OneNumber.{refusalUnit, burnUnit}
+use Rattle.c_records.specs.Stored.{Stored}
+use Rattle.c_records.specs.Records.{recordSize, fieldsAt}
+use Rattle.c_records.specs.Boundary.{startFromC, Called, callFromC}
 use Rattle.claims.specs.TwoBoards.{Images, Sending, WithoutPassword, Flash}
 
 -- ---- the boards
@@ -19,11 +20,11 @@ pub record RunningFromC : Type 0 where
   pub memory : Memory
 
 -- start on a board whose fuse is not set
-abbrev pub startedOn : Images → List ℕ → Stored
-startedOn images area = startFromC 0 (images .main) (images .settings) area
+abbrev pub startedOn : Part → Images → List ℕ → Stored
+startedOn part images area = startFromC part 0 (images .main) (images .settings) area
 
-abbrev pub startedFromC : Images → List ℕ → RunningFromC
-startedFromC images area = record { area = startedOn images area .area; memory = images }
+abbrev pub startedFromC : Part → Images → List ℕ → RunningFromC
+startedFromC part images area = record { area = startedOn part images area .area; memory = images }
 
 -- what is lent to start: settings of bytes, for a record area holds bytes alone; and an area of its size, with any contents
 pub record Lent (images : Images) (area : List ℕ) : Type 0 where
@@ -33,8 +34,8 @@ pub record Lent (images : Images) (area : List ℕ) : Type 0 where
 -- ---- what is claimed after every call
 
 -- what the call leaves of a board, and the board then
-abbrev pub calledFromC : RunningFromC → Sending → List ℕ → Called
-calledFromC board sending reply = callFromC (board .area) (board .memory) (sending .wait) (sending .packet) reply
+abbrev pub calledFromC : Part → RunningFromC → Sending → List ℕ → Called
+calledFromC part board sending reply = callFromC part (board .area) (board .memory) (sending .wait) (sending .packet) reply
 
 abbrev pub nextFromC : Called → RunningFromC
 nextFromC left = record { area = left .area; memory = left .memory }
@@ -55,7 +56,7 @@ abbrev pub wrongIn : List ℕ → ℕ
 wrongIn area = getD area 2 0
 
 -- all that two calls show, and all that they change
-pub record AlikeFromC (one other : Images) (oneLeft otherLeft : Called) : Type 0 where
+pub record AlikeFromC (part : Part) (one other : Images) (oneLeft otherLeft : Called) : Type 0 where
   -- no call is refused: the top byte of the number is 0
   pub served : oneLeft .answer < refusalUnit
   -- "Every reply is the same": the returned numbers, and the bytes
@@ -66,20 +67,20 @@ pub record AlikeFromC (one other : Images) (oneLeft otherLeft : Called) : Type 0
   -- "Neither unlocks."
   pub locked : lockIn (oneLeft .area) ≡ 0
   -- what they can change
-  pub oneFlash : Flash one (wrongIn (oneLeft .area)) (oneLeft .memory)
-  pub otherFlash : Flash other (wrongIn (otherLeft .area)) (otherLeft .memory)
+  pub oneFlash : Flash part one (wrongIn (oneLeft .area)) (oneLeft .memory)
+  pub otherFlash : Flash part other (wrongIn (otherLeft .area)) (otherLeft .memory)
 
 -- at every point of any finite list of calls
-abbrev pub AlikeCallsFromC : Images → Images → RunningFromC → RunningFromC → List Sending → Type 0
-AlikeCallsFromC one other oneNow otherNow [] = Unit
-AlikeCallsFromC one other oneNow otherNow (sending ∷ sendings) =
-    WithoutPassword one other sending
-    → AlikeFromC one other (calledFromC oneNow sending (sending .oneArea)) (calledFromC otherNow sending (sending .otherArea))
-    × AlikeCallsFromC one other (nextFromC (calledFromC oneNow sending (sending .oneArea))) (nextFromC (calledFromC otherNow sending (sending .otherArea))) sendings
+abbrev pub AlikeCallsFromC : Part → Images → Images → RunningFromC → RunningFromC → List Sending → Type 0
+AlikeCallsFromC part one other oneNow otherNow [] = Unit
+AlikeCallsFromC part one other oneNow otherNow (sending ∷ sendings) =
+    WithoutPassword part one other sending
+    → AlikeFromC part one other (calledFromC part oneNow sending (sending .oneArea)) (calledFromC part otherNow sending (sending .otherArea))
+    × AlikeCallsFromC part one other (nextFromC (calledFromC part oneNow sending (sending .oneArea))) (nextFromC (calledFromC part otherNow sending (sending .otherArea))) sendings
 
 -- "through one session": both starts answer 0 and leave records that are alike, and then all calls are
-pub record AlikeSessionsFromC (one other : Images) (oneArea otherArea : List ℕ) (sendings : List Sending) : Type 0 where
-  pub oneStarts : startedOn one oneArea .answer ≡ 0
-  pub otherStarts : startedOn other otherArea .answer ≡ 0
-  pub stands : standsFromC (startedFromC one oneArea .area) ≡ standsFromC (startedFromC other otherArea .area)
-  pub calls : AlikeCallsFromC one other (startedFromC one oneArea) (startedFromC other otherArea) sendings
+pub record AlikeSessionsFromC (part : Part) (one other : Images) (oneArea otherArea : List ℕ) (sendings : List Sending) : Type 0 where
+  pub oneStarts : startedOn part one oneArea .answer ≡ 0
+  pub otherStarts : startedOn part other otherArea .answer ≡ 0
+  pub stands : standsFromC (startedFromC part one oneArea .area) ≡ standsFromC (startedFromC part other otherArea .area)
+  pub calls : AlikeCallsFromC part one other (startedFromC part one oneArea) (startedFromC part other otherArea) sendings

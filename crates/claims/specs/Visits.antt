@@ -4,10 +4,11 @@ use Prim.Native.Nat.{ℕ, zero, suc}
 use mathlib.Core.Path.{_≡_}
 use mathlib.Core.Bool.{false}
 use mathlib.Core.List.{List, [], _∷_}
+use Rattle.parts.specs.declared.Part.{Part}
 use Rattle.session_state.specs.declared.Standing.{Standing}
 use Rattle.session_state.specs.Phases.{isUnlocked}
 use Rattle.session.specs.CallAnswers.{CallTold, Left}
-use Rattle.c_boundary.specs.Boundary.{Called}
+use Rattle.c_records.specs.Boundary.{Called}
 use Rattle.claims.specs.TwoBoards.{Images, Running, started, Sending, WithoutPassword, called, next, replied, Flash}
 use Rattle.claims.specs.TwoBoardsFromC.{RunningFromC, startedFromC, calledFromC, nextFromC, repliedFromC, standsFromC, lockIn, wrongIn}
 
@@ -43,9 +44,9 @@ module _ {Board Seen : Type 0} (call : Board → Sending → Step Board Seen) wh
   visited person board (suc calls) = further (person (visited person board calls .seen)) (visited person board calls)
 
 -- "no Unlock carrying either board's password", and "reply areas large enough", in all that was sent
-abbrev pub AllWithout : Images → Images → List Sending → Type 0
-AllWithout one other [] = Unit
-AllWithout one other (sending ∷ sendings) = WithoutPassword one other sending × AllWithout one other sendings
+abbrev pub AllWithout : Part → Images → Images → List Sending → Type 0
+AllWithout part one other [] = Unit
+AllWithout part one other (sending ∷ sendings) = WithoutPassword part one other sending × AllWithout part one other sendings
 
 -- what is claimed of two visits: the person chose the same for both, has seen the same of both, and the boards stand as is claimed of them
 pub record AlikeVisits {Board Seen : Type 0} (Claimed : Board → Board → Type 0) (oneVisit otherVisit : Visit Board Seen) : Type 0 where
@@ -66,21 +67,21 @@ pub record Seen : Type 0 where
 abbrev pub stepOf : Left → Step Running Seen
 stepOf left = record { board = next left; seen = record { reply = replied left; answer = left .answer; standing = left .session .standing } }
 
-abbrev pub visitOne : Person Seen → Images → ℕ → Visit Running Seen
-visitOne person images calls = visited (λ board sending. stepOf (called board sending (sending .oneArea))) person (started images) calls
+abbrev pub visitOne : Part → Person Seen → Images → ℕ → Visit Running Seen
+visitOne part person images calls = visited (λ board sending. stepOf (called part board sending (sending .oneArea))) person (started part images) calls
 
-abbrev pub visitOther : Person Seen → Images → ℕ → Visit Running Seen
-visitOther person images calls = visited (λ board sending. stepOf (called board sending (sending .otherArea))) person (started images) calls
+abbrev pub visitOther : Part → Person Seen → Images → ℕ → Visit Running Seen
+visitOther part person images calls = visited (λ board sending. stepOf (called part board sending (sending .otherArea))) person (started part images) calls
 
 -- two boards as they are now
-pub record StandAlike (one other : Images) (oneNow otherNow : Running) : Type 0 where
+pub record StandAlike (part : Part) (one other : Images) (oneNow otherNow : Running) : Type 0 where
   pub standing : oneNow .session .standing ≡ otherNow .session .standing
   -- "Neither unlocks."
   pub locked : isUnlocked (oneNow .session .standing .phase) ≡ false
   -- "A flash byte is 0xFF once the alert setting is reset, three wrong passwords have been counted and the place is unprotected; otherwise
   -- it is as at the start."
-  pub oneFlash : Flash one (oneNow .session .standing .wrong) (oneNow .memory)
-  pub otherFlash : Flash other (otherNow .session .standing .wrong) (otherNow .memory)
+  pub oneFlash : Flash part one (oneNow .session .standing .wrong) (oneNow .memory)
+  pub otherFlash : Flash part other (otherNow .session .standing .wrong) (otherNow .memory)
 
 -- ---- from C
 
@@ -94,16 +95,16 @@ abbrev pub stepFromC : Called → Step RunningFromC SeenFromC
 stepFromC left =
     record { board = nextFromC left; seen = record { reply = repliedFromC left; answer = left .answer; stands = standsFromC (left .area) } }
 
-abbrev pub visitOneFromC : Person SeenFromC → Images → List ℕ → ℕ → Visit RunningFromC SeenFromC
-visitOneFromC person images area calls =
-    visited (λ board sending. stepFromC (calledFromC board sending (sending .oneArea))) person (startedFromC images area) calls
+abbrev pub visitOneFromC : Part → Person SeenFromC → Images → List ℕ → ℕ → Visit RunningFromC SeenFromC
+visitOneFromC part person images area calls =
+    visited (λ board sending. stepFromC (calledFromC part board sending (sending .oneArea))) person (startedFromC part images area) calls
 
-abbrev pub visitOtherFromC : Person SeenFromC → Images → List ℕ → ℕ → Visit RunningFromC SeenFromC
-visitOtherFromC person images area calls =
-    visited (λ board sending. stepFromC (calledFromC board sending (sending .otherArea))) person (startedFromC images area) calls
+abbrev pub visitOtherFromC : Part → Person SeenFromC → Images → List ℕ → ℕ → Visit RunningFromC SeenFromC
+visitOtherFromC part person images area calls =
+    visited (λ board sending. stepFromC (calledFromC part board sending (sending .otherArea))) person (startedFromC part images area) calls
 
-pub record StandAlikeFromC (one other : Images) (oneNow otherNow : RunningFromC) : Type 0 where
+pub record StandAlikeFromC (part : Part) (one other : Images) (oneNow otherNow : RunningFromC) : Type 0 where
   pub stands : standsFromC (oneNow .area) ≡ standsFromC (otherNow .area)
   pub locked : lockIn (oneNow .area) ≡ 0
-  pub oneFlash : Flash one (wrongIn (oneNow .area)) (oneNow .memory)
-  pub otherFlash : Flash other (wrongIn (otherNow .area)) (otherNow .memory)
+  pub oneFlash : Flash part one (wrongIn (oneNow .area)) (oneNow .memory)
+  pub otherFlash : Flash part other (wrongIn (otherNow .area)) (otherNow .memory)

@@ -9,19 +9,19 @@ use lib.ListN.{length, length-take}
 use borrow.Author.Tests.{leb-true, le-leb, lt-leb}
 use Rattle.octets.specs.Choice.{pick}
 use Rattle.octets.proofs.Searching.{pick-true, pick-false, pick-both, by-test}
-use Rattle.flash.specs.declared.Part.{Part}
+use Rattle.parts.specs.declared.Part.{Part}
 use Rattle.flash.specs.declared.Place.{Place}
 use Rattle.flash.specs.declared.Region.{Region}
 use Rattle.flash.specs.declared.Region.the-variants.{Main, Settings, Outside}
-use Rattle.flash.specs.Regions.{mainStart, isMainSize, mspm0Part, liesWithin, placeIn, nowhere, placeOf}
+use Rattle.flash.specs.Regions.{mainStart, isMainSize, liesWithin, placeIn, nowhere, placeOf}
 use Rattle.flash.specs.Memory.{Memory, bytesIn}
 
 -- ---- sizes of MAIN
 
--- a size of MAIN needs no more than 17 bits
-pub main-size-is-small : (size : ℕ) → isMainSize size ≡ true → size ≤ 65536
+-- a size of MAIN is no more than the part's most
+pub main-size-is-small : (part : Part) (size : ℕ) → isMainSize part size ≡ true → size ≤ part .«most_main»
 unfolding isMainSize
-main-size-is-small size h = leb-true size 65536 (pick-both _ _ (pick-both _ _ h .1) .0)
+main-size-is-small part size h = leb-true size (part .«most_main») (pick-both _ _ (pick-both _ _ h .1) .0)
 
 -- ---- a range within a region
 
@@ -116,8 +116,10 @@ module _ (part : Part) (mainSize first count : ℕ) where
   outside-is-told n o = pick-false _ _ (range-past mainStart mainSize first count (omega arith)) ∙ pick-false _ _ o
 
 -- 01, Marked cases, sides of limits: "Address 0xFFFFFFF8 with 16 bytes is 05 and never wraps."
-pub last-addresses-are-outside : (mainSize : ℕ) → mainSize ≤ 65536 → placeOf mspm0Part mainSize 0xFFFFFFF8 16 ≡ nowhere
-last-addresses-are-outside mainSize h = outside-is-told mspm0Part mainSize 0xFFFFFFF8 16 (omega arith) (range-past 0x41C00000 1024 0xFFFFFFF8 16 (omega arith))
+pub last-addresses-are-outside : (part : Part) (mainSize : ℕ) → mainSize ≤ part .«most_main» → part .«most_main» ≤ 0xFFFFFFFF
+    → part .«settings_start» + part .«settings_size» ≤ 0xFFFFFFFF → placeOf part mainSize 0xFFFFFFF8 16 ≡ nowhere
+last-addresses-are-outside part mainSize h main settings =
+    outside-is-told part mainSize 0xFFFFFFF8 16 (omega arith) (range-past (part .«settings_start») (part .«settings_size») 0xFFFFFFF8 16 (omega arith))
 
 -- ---- the bytes
 

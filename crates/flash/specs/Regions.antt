@@ -1,9 +1,10 @@
 -- 01, The loader and its edges: "MAIN flash starts at 0x00000000 .. Settings flash starts at 0x41C00000 and has 1,024 bytes."
-use Prim.Native.Nat.{ℕ, _+_, _-_, _%_}
+use Prim.Native.Nat.{ℕ, _+_, _-_}
 use mathlib.Core.Bool.{Bool, false}
-use lib.Dec.{leb, eqb}
+use lib.Dec.{leb}
 use Rattle.octets.specs.Choice.{pick}
-use Rattle.flash.specs.declared.Part.{Part}
+use Rattle.octets.specs.Number.{isMultiple}
+use Rattle.parts.specs.declared.Part.{Part}
 use Rattle.flash.specs.declared.Place.{Place}
 use Rattle.flash.specs.declared.Region.{Region}
 use Rattle.flash.specs.declared.Region.the-variants.{Main, Settings, Outside}
@@ -12,13 +13,10 @@ use Rattle.flash.specs.declared.Region.the-variants.{Main, Settings, Out
 abbrev pub mainStart : ℕ
 mainStart = 0
 
--- "MAIN flash .., 1,024 to 65,536 bytes, a multiple of 1,024."
-unfoldable pub isMainSize : ℕ → Bool
-isMainSize size = pick (leb 1024 size) (pick (leb size 65536) (eqb (size % 1024) 0) false) false
-
--- "Settings flash starts at 0x41C00000 and has 1,024 bytes."
-abbrev pub mspm0Part : Part
-mspm0Part = record { «settings_start» = 0x41C00000; «settings_size» = 1024 }
+-- "MAIN flash .., 1,024 to 65,536 bytes, a multiple of 1,024.": whole sectors, at least one
+unfoldable pub isMainSize : Part → ℕ → Bool
+isMainSize part size =
+    pick (leb (part .«sector_size») size) (pick (leb size (part .«most_main»)) (isMultiple size (part .«sector_size»)) false) false
 
 -- "wholly in one region": from the region's start on, and not past its end. These are numbers of any size, so nothing wraps.
 -- A range of 0 bytes lies in a region from its start up to and including the address after its end.

@@ -1,6 +1,6 @@
 // Erasing sectors: every byte that is not protected becomes 0xFF.
 ghost use mathlib.Core.Path.{_≡_};
-ghost use Prim.Native.Nat.{_*_, _<_};
+ghost use Prim.Native.Nat.{_*_, _/_, _<_};
 ghost use lib.ListN.{length};
 ghost use Rattle.flash.specs.Erasing.{eraseOf, eraseAllOf};
 use crate::protection;
@@ -19,7 +19,7 @@ fn erase_sector(memory: &mut [u8], sector_size: usize, protection: &[u8], sector
 }
 
 // Erases the sectors from first to last, as far as the memory reaches; those that are protected keep their bytes.
-pub fn erase(memory: &mut [u8], sector_size: usize, protection: &[u8], first: usize, last: usize)
+fn erase(memory: &mut [u8], sector_size: usize, protection: &[u8], first: usize, last: usize)
     ensures { λ _. ⌜ now (memory .exit) ≡ eraseOf «sector_size» (now (protection .entry)) first last (now (memory .entry)) ⌝ }
 {
     let size = memory.len();
@@ -35,6 +35,28 @@ pub fn erase(memory: &mut [u8], sector_size: usize, protection: &[u8], first: us
         erase_sector(memory, sector_size, protection, sector);
         sector += 1;
     }
+}
+
+// Erases the sectors from that of one place to that of another, as far as the memory reaches; those that are protected keep their bytes.
+pub fn erase_between(
+    memory: &mut [u8],
+    sector_size: usize,
+    protection: &[u8],
+    start: usize,
+    end: usize,
+)
+    ensures { λ _. ⌜ now (memory .exit) ≡ eraseOf «sector_size» (now (protection .entry)) (start / «sector_size») (end / «sector_size») (now (memory .entry)) ⌝ }
+{
+    if sector_size == 0 {
+        return;
+    }
+    erase(
+        memory,
+        sector_size,
+        protection,
+        start / sector_size,
+        end / sector_size,
+    );
 }
 
 // Erases every sector that is not protected.

@@ -4,13 +4,12 @@ mod programming;
 mod protection;
 mod regions;
 
-pub use erasing::erase;
 pub use erasing::erase_all;
+pub use erasing::erase_between;
 pub use programming::program;
 pub use regions::bytes_in;
 pub use regions::is_main_size;
 pub use regions::locate;
-pub use regions::mspm0;
 
 // Where a range of addresses can lie.
 pub enum Region {
@@ -23,10 +22,4 @@ pub enum Region {
 pub struct Place {
     pub region: Region,
     pub offset: usize,
-}
-
-// The numbers of a part of the family. MAIN starts at 0, and its size is the board's.
-pub struct Part {
-    pub settings_start: u32,
-    pub settings_size: u32,
 }

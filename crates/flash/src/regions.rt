@@ -1,40 +1,26 @@
 // The regions of memory: which sizes MAIN may have, which region holds a range of addresses, and the bytes there.
 ghost use mathlib.Core.Path.{_≡_};
-ghost use Rattle.flash.specs.Regions.{isMainSize, mspm0Part, liesWithin, placeOf};
+ghost use Rattle.flash.specs.Regions.{isMainSize, liesWithin, placeOf};
 ghost use Rattle.flash.specs.Memory.{memory, bytesIn};
-use crate::Part;
 use crate::Place;
 use crate::Region;
+use parts::Part;
 
 const MAIN_START: u32 = 0;
 
-const LEAST_MAIN: usize = 1024;
-
-const MOST_MAIN: usize = 65536;
-
-const MAIN_STEP: usize = 1024;
-
-// Whether MAIN may have so many bytes.
-pub fn is_main_size(size: usize) -> bool
-    ensures { λ r. ⌜ r ≡ isMainSize size ⌝ }
+// Whether MAIN may have so many bytes: whole sectors, at least one, up to the part's most.
+pub fn is_main_size(part: Part, size: usize) -> bool
+    ensures { λ r. ⌜ r ≡ isMainSize part size ⌝ }
 {
-    if size < LEAST_MAIN {
+    let sector = part.sector_size as usize;
+    let most = part.most_main as usize;
+    if size < sector {
         return false;
     }
-    if MOST_MAIN < size {
+    if most < size {
         return false;
     }
-    size % MAIN_STEP == 0
-}
-
-// The part of document 004.
-pub fn mspm0() -> Part
-    ensures { λ r. ⌜ r ≡ mspm0Part ⌝ }
-{
-    Part {
-        settings_start: 0x41C0_0000,
-        settings_size: 1024,
-    }
+    octets::is_multiple(size as u64, sector as u64)
 }
 
 // Whether a region of so many bytes from a start on holds the range wholly.

@@ -15,13 +15,13 @@ use Rattle.line.specs.Packet.{lengthIn, coreIn, checksumIn, codeIn, rate
 use Rattle.line.specs.Acknowledgement.{isRate, checksumDiffers, rateUnknown, acknowledgement}
 
 -- the framing that 01 asks for
-pub record Framed (packet : List ℕ) : Type 0 where
+pub record Framed (lastRate : ℕ) (packet : List ℕ) : Type 0 where
   pub header : getD packet 0 0 ≡ commandHeader
   pub size : length packet ≡ lengthIn packet + 7
   pub least : 1 ≤ lengthIn packet
   pub most : lengthIn packet ≤ lengthLimit
   pub checksum : checksumIn packet ≡ checksumOf (coreIn packet)
-  pub rated : codeIn packet ≡ rate → (lengthIn packet ≡ 2) × (isRate (rateIn packet) ≡ true)
+  pub rated : codeIn packet ≡ rate → (lengthIn packet ≡ 2) × (isRate lastRate (rateIn packet) ≡ true)
 
 -- where a test would have given another code, it did not hold
 passed : (test : Bool) (code other : ℕ) → 0 < code → pick test code other ≡ acknowledged → (test ≡ false) × (other ≡ acknowledged)
@@ -30,23 +30,23 @@ passed test code other h e =
     (λ y. absurd (omega (arith, sym (pick-true code other y) ∙ e)))
     (λ n. (n, sym (pick-false code other n) ∙ e))
 
-rate-known : (packet : List ℕ) → rateUnknown packet ≡ false → codeIn packet ≡ rate → (lengthIn packet ≡ 2) × (isRate (rateIn packet) ≡ true)
+rate-known : (lastRate : ℕ) (packet : List ℕ) → rateUnknown lastRate packet ≡ false → codeIn packet ≡ rate → (lengthIn packet ≡ 2) × (isRate lastRate (rateIn packet) ≡ true)
 unfolding rateUnknown
-rate-known packet h e =
+rate-known lastRate packet h e =
     let known = not-false _ (sym (pick-true _ false (eq-eqb _ _ e)) ∙ h) in
-    let both = pick-both (eqb (lengthIn packet) 2) (isRate (rateIn packet)) known in
+    let both = pick-both (eqb (lengthIn packet) 2) (isRate lastRate (rateIn packet)) known in
     (eqb-true _ _ (both .0), both .1)
 
-known-rate : (packet : List ℕ) → (codeIn packet ≡ rate → (lengthIn packet ≡ 2) × (isRate (rateIn packet) ≡ true)) → rateUnknown packet ≡ false
+known-rate : (lastRate : ℕ) (packet : List ℕ) → (codeIn packet ≡ rate → (lengthIn packet ≡ 2) × (isRate lastRate (rateIn packet) ≡ true)) → rateUnknown lastRate packet ≡ false
 unfolding rateUnknown
-known-rate packet f =
+known-rate lastRate packet f =
     by-test (eqb (codeIn packet) rate)
     (λ y. let both = f (eqb-true _ _ y) in rw (pick-true _ false y, pick-true _ false (eq-eqb _ _ (both .0)), both .1))
     (λ n. pick-false _ false n)
 
-pub acknowledged-is-framed : (packet : List ℕ) → acknowledgement packet ≡ acknowledged → Framed packet
+pub acknowledged-is-framed : (lastRate : ℕ) (packet : List ℕ) → acknowledgement lastRate packet ≡ acknowledged → Framed lastRate packet
 unfolding acknowledgement checksumDiffers
-acknowledged-is-framed packet h =
+acknowledged-is-framed lastRate packet h =
     let headed = passed _ _ _ (omega arith) h in
     let long = passed _ _ _ (omega arith) (headed .1) in
     let some = passed _ _ _ (omega arith) (long .1) in
@@ -60,25 +60,25 @@ acknowledged-is-framed packet h =
       least = let n : (lengthIn packet ≡ 0 → ⊥) = eqb-false _ _ (some .0) in omega arith;
       most = ltb-false _ _ (small .0);
       checksum = eqb-true _ _ (not-false _ (summed .0));
-      rated = rate-known packet (rated .0);
+      rated = rate-known lastRate packet (rated .0);
     }
 
-pub framed-is-acknowledged : (packet : List ℕ) → Framed packet → acknowledgement packet ≡ acknowledged
+pub framed-is-acknowledged : (lastRate : ℕ) (packet : List ℕ) → Framed lastRate packet → acknowledgement lastRate packet ≡ acknowledged
 unfolding acknowledgement checksumDiffers pick
-framed-is-acknowledged packet f =
-    rw (eq-eqb _ _ (f .header), le-ltb (length packet) 3 (omega arith), ne-eqb (lengthIn packet) 0 (λ e. omega arith), le-ltb _ _ (f .most), eq-eqb _ _ (f .size), eq-eqb _ _ (f .checksum), known-rate packet (f .rated))
+framed-is-acknowledged lastRate packet f =
+    rw (eq-eqb _ _ (f .header), le-ltb (length packet) 3 (omega arith), ne-eqb (lengthIn packet) 0 (λ e. omega arith), le-ltb _ _ (f .most), eq-eqb _ _ (f .size), eq-eqb _ _ (f .checksum), known-rate lastRate packet (f .rated))
 
 -- "L 1,721 accepted, 1,722 is 0x54"
-pub above-limit-is-too-big : (packet : List ℕ) → getD packet 0 0 ≡ commandHeader → 3 ≤ length packet → lengthLimit < lengthIn packet
-    → acknowledgement packet ≡ sizeTooBig
+pub above-limit-is-too-big : (lastRate : ℕ) (packet : List ℕ) → getD packet 0 0 ≡ commandHeader → 3 ≤ length packet → lengthLimit < lengthIn packet
+    → acknowledgement lastRate packet ≡ sizeTooBig
 unfolding acknowledgement pick
-above-limit-is-too-big packet headed long above =
+above-limit-is-too-big lastRate packet headed long above =
     rw (eq-eqb _ _ headed, le-ltb _ _ long, ne-eqb (lengthIn packet) 0 (λ e. omega arith), lt-ltb _ _ above)
 
--- a rate id stands in 1..9
-pub rate-ids : (id : ℕ) → isRate id ≡ true → (1 ≤ id) × (id ≤ 9)
+-- a rate id stands in 1..9, where 9 is the part's last
+pub rate-ids : (lastRate id : ℕ) → isRate lastRate id ≡ true → (1 ≤ id) × (id ≤ lastRate)
 unfolding isRate
-rate-ids id h =
+rate-ids lastRate id h =
     by-test (ltb id 1)
-    (λ y. absurd (let z = sym (pick-true false (leb id 9) y) ∙ h in false≢true z))
-    (λ n. (ltb-false id 1 n, leb-true id 9 (sym (pick-false false (leb id 9) n) ∙ h)))
+    (λ y. absurd (let z = sym (pick-true false (leb id lastRate) y) ∙ h in false≢true z))
+    (λ n. (ltb-false id 1 n, leb-true id lastRate (sym (pick-false false (leb id lastRate) n) ∙ h)))

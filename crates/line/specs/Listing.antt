@@ -34,15 +34,15 @@ listing =
     (0x00 ∷ 0x08 ∷ 0x02 ∷ 0x00 ∷ 0x3B ∷ 0x01 ∷ 0xAE ∷ 0x32 ∷ 0x93 ∷ 0xF5 ∷ [])
     ∷ []
 
--- what these definitions say of a case, and what 01 prints
+-- what these definitions say of a case, on any part, and what 01 prints
 pub record Seen : Type 0 where
   pub acknowledgement : ℕ
   pub command : Command
   pub sent : List ℕ
 
-abbrev seen : Case → Seen
-seen k = record {
-  acknowledgement = acknowledgement (k .packet);
+abbrev seen : ℕ → Case → Seen
+seen lastRate k = record {
+  acknowledgement = acknowledgement lastRate (k .packet);
   command = commandOf (k .packet);
   sent = replyBytes (k .reply) [];
 }
@@ -50,6 +50,6 @@ seen k = record {
 abbrev listed : Case → Seen
 listed k = record { acknowledgement = acknowledged; command = k .command; sent = k .printed }
 
-pub listing-holds : map seen listing ≡ map listed listing
+pub listing-holds : (lastRate : ℕ) → map (seen lastRate) listing ≡ map listed listing
 unfolding listing acknowledgement checksumDiffers rateUnknown isRate commandOf guardedIn guardedOf openOf lengthFits isOneOf replyBytes coreReply infoOf pick numberOf bytesOf checksumOf checksumFrom byteOn bitsOn bitOn
-listing-holds = refl
+listing-holds lastRate = refl

@@ -18,14 +18,14 @@ pub(crate) fn length_in(packet: &[u8]) -> u16
     octets::number16_at(packet, LENGTH_AT)
 }
 
-// Whether this is the id of a rate.
-fn is_rate(id: u8) -> bool
-    ensures { λ r. ⌜ r ≡ isRate id ⌝ }
+// Whether this is the id of a rate, on a part whose last has the given one.
+fn is_rate(last_rate: u8, id: u8) -> bool
+    ensures { λ r. ⌜ r ≡ isRate «last_rate» id ⌝ }
 {
     if id < codes::FIRST_RATE_ID {
         return false;
     }
-    id <= codes::LAST_RATE_ID
+    id <= last_rate
 }
 
 // The checksum stands in the last four bytes of a packet whose size is right, and the core before it.
@@ -37,8 +37,8 @@ fn checksum_differs(packet: &[u8]) -> bool
     octets::number32_at(packet, end) != checksum::checksum_of(&packet[CORE_AT..end])
 }
 
-fn rate_unknown(packet: &[u8]) -> bool
-    ensures { λ r. ⌜ r ≡ rateUnknown (now (packet .entry)) ⌝ }
+fn rate_unknown(last_rate: u8, packet: &[u8]) -> bool
+    ensures { λ r. ⌜ r ≡ rateUnknown «last_rate» (now (packet .entry)) ⌝ }
 {
     if octets::byte_at(packet, CORE_AT) != codes::RATE {
         return false;
@@ -46,12 +46,12 @@ fn rate_unknown(packet: &[u8]) -> bool
     if length_in(packet) != 2 {
         return true;
     }
-    !is_rate(octets::byte_at(packet, FIRST_AT))
+    !is_rate(last_rate, octets::byte_at(packet, FIRST_AT))
 }
 
-// The acknowledgement of any bytes, none among them.
-pub fn acknowledge(packet: &[u8]) -> u8
-    ensures { λ r. ⌜ r ≡ acknowledgement (now (packet .entry)) ⌝ }
+// The acknowledgement of any bytes, none among them, on a part whose last rate has the given id.
+pub fn acknowledge(last_rate: u8, packet: &[u8]) -> u8
+    ensures { λ r. ⌜ r ≡ acknowledgement «last_rate» (now (packet .entry)) ⌝ }
 {
     if octets::byte_at(packet, 0) != codes::COMMAND_HEADER {
         return codes::HEADER_INCORRECT;
@@ -72,7 +72,7 @@ pub fn acknowledge(packet: &[u8]) -> u8
     if checksum_differs(packet) {
         return codes::CHECKSUM_INCORRECT;
     }
-    if rate_unknown(packet) {
+    if rate_unknown(last_rate, packet) {
         return codes::UNKNOWN_RATE;
     }
     codes::ACKNOWLEDGED

@@ -5,6 +5,8 @@ pub mod Numbers
 pub mod Parts
 -- Searching: choices, the first number that passes a test.
 pub mod Searching
+-- Multiples: multiples of a unit.
+pub mod Multiples
 -- Table: one computed test over a whole table is the rule at each entry.
 pub mod Table
 -- AlikeLaws: what the comparisons say, byte by byte and of all.

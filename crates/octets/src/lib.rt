@@ -8,6 +8,7 @@ pub use comparing::all_are;
 pub use comparing::are_same;
 pub use hex::put_hex;
 pub use reading::byte_at;
+pub use reading::is_multiple;
 pub use reading::least;
 pub use reading::number16_at;
 pub use reading::number32_at;

@@ -1,14 +1,24 @@
-// Bytes read: one, some, numbers of two and four, and how many there are.
+// Bytes read: one, some, numbers of two and four, and how many there are; and multiples of a number.
 ghost use mathlib.Core.Path.{_≡_};
 ghost use Prim.Native.Nat.{_+_, _-_, _≤_, min};
 ghost use lib.ListN.{length, getD};
-ghost use Rattle.octets.specs.Number.{part, numberAt};
+ghost use Rattle.octets.specs.Number.{part, numberAt, isMultiple};
 
 // The lesser of two numbers.
 pub fn least(a: usize, b: usize) -> usize
     ensures { λ r. ⌜ r ≡ min a b ⌝ }
 {
     if a < b { a } else { b }
+}
+
+// Whether a number is a multiple of a unit; of 0 there are none.
+pub fn is_multiple(number: u64, unit: u64) -> bool
+    ensures { λ r. ⌜ r ≡ isMultiple number unit ⌝ }
+{
+    if unit == 0 {
+        return false;
+    }
+    number % unit == 0
 }
 
 // How many of so many bytes stand from a place on.

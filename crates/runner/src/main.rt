@@ -48,7 +48,7 @@ fn play_entry(
 {
     let wait = runner_text::wait_of(script, index);
     let packet = runner_text::packet_of(script, index);
-    let called = session::call(session, main, image, wait, packet, reply);
+    let called = mspm0::call(session, main, image, wait, packet, reply);
     let answer = called.answer;
     let size = reply_size(answer);
     print_line(index + 1, octets::part_of(reply, 0, size));
@@ -60,7 +60,7 @@ fn play(script: &[u8], count: u8) {
     let mut main = [0xFFu8; 4096];
     let mut image = [0xFFu8; 1024];
     let mut reply = [0u8; 1729];
-    let mut session = session::start(false, &main, &image).session;
+    let mut session = mspm0::start(false, &main, &image).session;
     for index in 0..count {
         session = play_entry(script, index, session, &mut main, &mut image, &mut reply);
     }

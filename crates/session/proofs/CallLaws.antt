@@ -8,6 +8,7 @@ use lib.Dec.{ltb}
 use lib.ListN.{length}
 use Rattle.octets.proofs.Searching.{by-pick}
 use Rattle.line.specs.Codes.{replyLimit}
+use Rattle.parts.specs.declared.Part.{Part}
 use Rattle.flash.specs.Memory.{Memory}
 use Rattle.session_send.proofs.AnsweringLaws.{answer-fits}
 use Rattle.session.specs.declared.Session.{Session}
@@ -15,17 +16,17 @@ use Rattle.session.specs.Records.{isRecord}
 use Rattle.session.specs.CallAnswers.{Left}
 use Rattle.session.specs.Calling.{standsThen, callRefused, serveOf, callOf}
 
-module _ (session : Session) (before : Memory) (wait : ℕ) (packet area : List ℕ) where
+module _ (part : Part) (session : Session) (before : Memory) (wait : ℕ) (packet area : List ℕ) where
   abbrev after : Left
-  after = callOf session before wait packet area
+  after = callOf part session before wait packet area
 
   -- what holds of a refused call and of one that is served holds of every call
   pub every-call : (P : Left → Type 0) → ((number : ℕ) → P (callRefused number session before area))
-      → P (serveOf session before wait packet area) → P after
+      → P (serveOf part session before wait packet area) → P after
   unfolding callOf
   every-call P refused served =
       by-pick P (ltb (length area) replyLimit) _ _ (λ y. refused 9)
-      (λ n. by-pick P (not (isRecord session (length (before .main)) (length (before .settings)))) _ _ (λ y. refused 10) (λ n. served))
+      (λ n. by-pick P (not (isRecord part session (length (before .main)) (length (before .settings)))) _ _ (λ y. refused 10) (λ n. served))
 
   -- 01, Numbers of refused calls: "each changes nothing lent and returns the record it was given"
   pub refused-changes-nothing : (after .answer .number ≡ 0 → ⊥) → after ≡ callRefused (after .answer .number) session before area

@@ -7,6 +7,7 @@ use native.Mathlib.Omega.{arith}
 use lib.ListN.{length}
 use Rattle.line.specs.Codes.{replyLimit}
 use Rattle.line.specs.Replies.{readBackMost}
+use Rattle.parts.specs.declared.Part.{Part}
 use Rattle.settings.specs.declared.Shown.{Shown}
 use Rattle.flash.specs.Memory.{Memory}
 use Rattle.flash.proofs.RegionLaws.{most-asked}
@@ -17,16 +18,16 @@ use Rattle.session_act.proofs.PlanLaws.{every-plan, bytesBeside}
 use Rattle.session_send.specs.Answering.{answerOf}
 use Rattle.session_send.proofs.AnsweringLaws.{whole, answerBytes, answer-is-whole}
 
-module _ (mainSize : ℕ) (shown : Shown) (right : Bool) (before after : Memory) (effect : Effect) where
+module _ (part : Part) (mainSize : ℕ) (shown : Shown) (right : Bool) (before after : Memory) (effect : Effect) where
   abbrev plans : Planned
-  plans = planOf mainSize shown right before effect
+  plans = planOf part mainSize shown right before effect
 
   -- no more bytes go with an answer than Read back may ask for
   few-beside : length (bytesBeside after plans) ≤ readBackMost
   few-beside =
       every-plan (λ planned. length (bytesBeside after planned) ≤ readBackMost) (λ reply order. omega arith)
       (λ place size few. omega (arith, few, most-asked (place .offset) size after (place .region)))
-      mainSize shown right before effect
+      part mainSize shown right before effect
 
   -- Whatever was decided of a packet: the reply of its plan is sent whole in an area of 1,729 bytes. No call answers with size 0 for want of room.
   pub plan-is-told-whole : (packet area : List ℕ) → replyLimit ≤ length area

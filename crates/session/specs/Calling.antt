@@ -8,6 +8,7 @@ use Rattle.octets.specs.Choice.{pick}
 use Rattle.line.specs.Codes.{replyLimit}
 use Rattle.line.specs.Packet.{passwordIn, resetPasswordIn}
 use Rattle.line.specs.Replies.{Sent}
+use Rattle.parts.specs.declared.Part.{Part}
 use Rattle.session_state.specs.declared.Standing.{Standing}
 use Rattle.flash.specs.Memory.{Memory}
 use Rattle.session_judge.specs.declared.Effect.{Effect}
@@ -28,24 +29,24 @@ abbrev pub standsThen : Session → Standing → Session
 standsThen session standing = record { standing = standing; «main_size» = session .«main_size»; settings = session .settings }
 
 -- what the session lets be done; no password is among it
-abbrev pub boardOf : Session → Board
-boardOf session = board (session .«main_size») (session .settings .shown) (session .settings .protection)
+abbrev pub boardOf : Part → Session → Board
+boardOf part session = board part (session .«main_size») (session .settings .shown) (session .settings .protection)
 
 -- the packet is judged, on how the session stands, the alert setting, and whether the packet carries the password
-abbrev pub judgement : Session → ℕ → List ℕ → Judged
-judgement session wait packet =
-    judgedOf (session .standing) (session .settings .shown .alert) wait packet (areSame (session .settings .password) (passwordIn packet))
+abbrev pub judgement : ℕ → Session → ℕ → List ℕ → Judged
+judgement lastRate session wait packet =
+    judgedOf lastRate (session .standing) (session .settings .shown .alert) wait packet (areSame (session .settings .password) (passwordIn packet))
 
 -- whether the packet carries the session's reset password
 abbrev pub carriesReset : Session → List ℕ → Bool
 carriesReset session packet = areSame (session .settings .«reset_password») (resetPasswordIn packet)
 
 -- what was decided is planned, and done to memory
-abbrev pub intent : Session → List ℕ → Memory → Effect → Planned
-intent session packet before effect = planOn (boardOf session) (carriesReset session packet) before effect
+abbrev pub intent : Part → Session → List ℕ → Memory → Effect → Planned
+intent part session packet before effect = planOn (boardOf part session) (carriesReset session packet) before effect
 
-abbrev pub deed : Session → List ℕ → Memory → Effect → Acted
-deed session packet before effect = actOf (boardOf session) (carriesReset session packet) packet before effect
+abbrev pub deed : Part → Session → List ℕ → Memory → Effect → Acted
+deed part session packet before effect = actOf (boardOf part session) (carriesReset session packet) packet before effect
 
 -- all that a call leaves where it is not refused: "the answer of that call, and of no other, tells the board to burn its fuse"
 abbrev pub served : Session → Judged → Acted → Sent → Left
@@ -59,20 +60,20 @@ answered session packet area judged planned acted =
     (answerOf (acted .reply) (planned .place) (planned .count) packet (acted .memory) area)
 
 -- what was judged is followed: plan, carry out, answer
-abbrev pub followed : Session → Memory → List ℕ → List ℕ → Judged → Left
-followed session before packet area judged =
-    answered session packet area judged (intent session packet before (judged .effect)) (deed session packet before (judged .effect))
+abbrev pub followed : Part → Session → Memory → List ℕ → List ℕ → Judged → Left
+followed part session before packet area judged =
+    answered session packet area judged (intent part session packet before (judged .effect)) (deed part session packet before (judged .effect))
 
-unfoldable pub serveOf : Session → Memory → ℕ → List ℕ → List ℕ → Left
-serveOf session before wait packet area = followed session before packet area (judgement session wait packet)
+unfoldable pub serveOf : Part → Session → Memory → ℕ → List ℕ → List ℕ → Left
+serveOf part session before wait packet area = followed part session before packet area (judgement (part .«last_rate») session wait packet)
 
 -- 01, Numbers of refused calls: "each changes nothing lent and returns the record it was given"
 abbrev pub callRefused : ℕ → Session → Memory → List ℕ → Left
 callRefused number session before area = left (callTold number 0 false) session before area
 
 -- "9 reply area below 1,729 bytes; 10 record not valid", and then the rules of a session
-unfoldable pub callOf : Session → Memory → ℕ → List ℕ → List ℕ → Left
-callOf session before wait packet area =
+unfoldable pub callOf : Part → Session → Memory → ℕ → List ℕ → List ℕ → Left
+callOf part session before wait packet area =
     pick (ltb (length area) replyLimit) (callRefused 9 session before area)
-    (pick (not (isRecord session (length (before .main)) (length (before .settings)))) (callRefused 10 session before area)
-    (serveOf session before wait packet area))
+    (pick (not (isRecord part session (length (before .main)) (length (before .settings)))) (callRefused 10 session before area)
+    (serveOf part session before wait packet area))

@@ -3,6 +3,7 @@ use Prim.Native.Nat.{ℕ}
 use mathlib.Core.Bool.{Bool, false}
 use lib.Dec.{eqb}
 use Rattle.octets.specs.Choice.{pick}
+use Rattle.parts.specs.declared.Part.{Part}
 use Rattle.session_state.specs.Phases.{isValid}
 use Rattle.settings.specs.Values.{isAllowed}
 use Rattle.settings.specs.Layout.{imageSize}
@@ -12,12 +13,12 @@ use Rattle.session.specs.declared.Session.{Session}
 -- 10: "record not valid: idle above 9,999, sleep above 2,000, wrong count above 3, rate id outside 1..9, a bad body-3 value, ..
 -- unlocked with sleep above 0, a MAIN size outside the rule, a settings area not 1,024 bytes, or sizes unlike the lent images".
 -- The clauses left out here speak of what no session can hold.
-unfoldable pub isRecord : Session → ℕ → ℕ → Bool
-isRecord session mainLent settingsLent =
-    pick (isValid (session .standing))
+unfoldable pub isRecord : Part → Session → ℕ → ℕ → Bool
+isRecord part session mainLent settingsLent =
+    pick (isValid (part .«last_rate») (session .standing))
     (pick (isAllowed (session .settings .shown))
-    (pick (isMainSize (session .«main_size»))
-    (pick (eqb settingsLent imageSize) (eqb mainLent (session .«main_size»)) false)
+    (pick (eqb settingsLent imageSize)
+    (pick (isMainSize part (session .«main_size»)) (eqb mainLent (session .«main_size»)) false)
     false)
     false)
     false

@@ -5,6 +5,7 @@ use mathlib.Core.List.{List}
 use lib.Dec.{eqb}
 use lib.ListN.{length}
 use Rattle.octets.specs.Choice.{pick}
+use Rattle.parts.specs.declared.Part.{Part}
 use Rattle.session_state.specs.Phases.{atStart}
 use Rattle.settings.specs.declared.Settings.{Settings}
 use Rattle.settings.specs.Values.{noSettings}
@@ -35,8 +36,8 @@ startRead mainSize told =
     (startRefused (told .number) (told .entry))
 
 -- "1 the board's disabled fuse is set; 2 MAIN size outside the rule", then 3 to 8
-unfoldable pub startOf : Bool → List ℕ → List ℕ → StartTold
-startOf fuse main settings =
+unfoldable pub startOf : Part → Bool → List ℕ → List ℕ → StartTold
+startOf part fuse main settings =
     pick fuse (startRefused 1 0)
-    (pick (not (isMainSize (length main))) (startRefused 2 0)
+    (pick (not (isMainSize part (length main))) (startRefused 2 0)
     (startRead (length main) (readOf form1 settings)))

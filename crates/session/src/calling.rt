@@ -14,18 +14,26 @@ use flash::Place;
 use flash::Region;
 use line::Reply;
 use line::codes;
+use parts::Part;
 use session_act::Order;
 use session_act::Planned;
 use session_judge::Effect;
 use session_judge::Judged;
 
 // The packet is judged; of the password the judge hears only whether the packet carries it.
-fn judge_packet(session: Session, wait: u32, packet: &[u8]) -> Judged
-    ensures { λ r. ⌜ r ≡ judgement session wait (now (packet .entry)) ⌝ }
+fn judge_packet(last_rate: u8, session: Session, wait: u32, packet: &[u8]) -> Judged
+    ensures { λ r. ⌜ r ≡ judgement «last_rate» session wait (now (packet .entry)) ⌝ }
 {
     let settings = session.settings;
     let right = passwords::unlocks(&settings.password, packet);
-    session_judge::judge(session.standing, settings.shown.alert, wait, packet, right)
+    session_judge::judge(
+        last_rate,
+        session.standing,
+        settings.shown.alert,
+        wait,
+        packet,
+        right,
+    )
 }
 
 // An answer, and nothing to be done.
@@ -45,13 +53,14 @@ fn says(reply: Reply) -> Planned
 
 // What was decided is planned, and the plan's order carried out. Most packets are only answered, and nothing is to be done.
 fn act_on(
+    part: Part,
     effect: Effect,
     session: Session,
     packet: &[u8],
     main: &mut [u8],
     image: &mut [u8],
 ) -> Planned
-    ensures { λ r. ⌜ (r ≡ intent session (now (packet .entry)) (memory (now (main .entry)) (now (image .entry))) effect) × (acted (r .reply) (memory (now (main .exit)) (now (image .exit))) ≡ deed session (now (packet .entry)) (memory (now (main .entry)) (now (image .entry))) effect) ⌝ }
+    ensures { λ r. ⌜ (r ≡ intent part session (now (packet .entry)) (memory (now (main .entry)) (now (image .entry))) effect) × (acted (r .reply) (memory (now (main .exit)) (now (image .exit))) ≡ deed part session (now (packet .entry)) (memory (now (main .entry)) (now (image .entry))) effect) ⌝ }
 {
     if let Effect::Say(reply) = effect {
         return says(reply);
@@ -59,6 +68,7 @@ fn act_on(
     let settings = session.settings;
     let right = passwords::resets(effect, &settings.reset_password, packet);
     let planned = session_act::plan(
+        part,
         effect,
         settings.shown,
         session.main_size,
@@ -68,6 +78,7 @@ fn act_on(
     );
     let order = planned.order;
     session_act::carry_out(
+        part,
         order,
         settings.shown,
         &settings.protection,
@@ -97,6 +108,7 @@ fn served(session: Session, judged: Judged, size: usize) -> Called
 
 // A call with a valid record and a large enough area.
 fn serve(
+    part: Part,
     session: Session,
     main: &mut [u8],
     image: &mut [u8],
@@ -104,20 +116,21 @@ fn serve(
     packet: &[u8],
     area: &mut [u8],
 ) -> Called
-    ensures { λ r. ⌜ callLeft r (memory (now (main .exit)) (now (image .exit))) (now (area .exit)) ≡ serveOf session (memory (now (main .entry)) (now (image .entry))) wait (now (packet .entry)) (now (area .entry)) ⌝ }
+    ensures { λ r. ⌜ callLeft r (memory (now (main .exit)) (now (image .exit))) (now (area .exit)) ≡ serveOf part session (memory (now (main .entry)) (now (image .entry))) wait (now (packet .entry)) (now (area .entry)) ⌝ }
 {
-    let judged = judge_packet(session, wait, packet);
+    let judged = judge_packet(part.last_rate, session, wait, packet);
     let effect = judged.effect;
-    let planned = act_on(effect, session, packet, main, image);
+    let planned = act_on(part, effect, session, packet, main, image);
     let reply = planned.reply;
     let place = planned.place;
     let size = session_send::answer(reply, place, planned.count, packet, main, image, area);
     served(session, judged, size)
 }
 
-// A call: so many milliseconds after the one before came a packet, perhaps empty. The reply is written to the start of the area.
+// A call on a board of this part: so many milliseconds after the one before came a packet, perhaps empty. The reply is written to the start of the area.
 // A call that is refused changes nothing, and the session is the one that was given.
 pub fn call(
+    part: Part,
     session: Session,
     main: &mut [u8],
     image: &mut [u8],
@@ -125,7 +138,7 @@ pub fn call(
     packet: &[u8],
     area: &mut [u8],
 ) -> Called
-    ensures { λ r. ⌜ callLeft r (memory (now (main .exit)) (now (image .exit))) (now (area .exit)) ≡ callOf session (memory (now (main .entry)) (now (image .entry))) wait (now (packet .entry)) (now (area .entry)) ⌝ }
+    ensures { λ r. ⌜ callLeft r (memory (now (main .exit)) (now (image .exit))) (now (area .exit)) ≡ callOf part session (memory (now (main .entry)) (now (image .entry))) wait (now (packet .entry)) (now (area .entry)) ⌝ }
 {
     if area.len() < codes::REPLY_LIMIT {
         return Called {
@@ -133,11 +146,11 @@ pub fn call(
             session,
         };
     }
-    if !records::is_record(session, main.len(), image.len()) {
+    if !records::is_record(part, session, main.len(), image.len()) {
         return Called {
             answer: CallAnswer::RecordNotValid,
             session,
         };
     }
-    serve(session, main, image, wait, packet, area)
+    serve(part, session, main, image, wait, packet, area)
 }

@@ -7,6 +7,7 @@ ghost use Rattle.octets.specs.Alike.{areSame};
 ghost use Rattle.line.specs.Packet.{passwordIn, resetPasswordIn};
 ghost use Rattle.session_state.specs.declared.Standing.{Standing};
 ghost use Rattle.session_judge.specs.Hearing.{judgedOf};
+ghost use Rattle.parts.specs.declared.Part.{Part};
 ghost use Rattle.flash.specs.Memory.{Memory};
 ghost use Rattle.settings.specs.declared.Shown.{Shown};
 ghost use Rattle.session_act.specs.Acting.{planOf};
@@ -22,7 +23,7 @@ const RESET_PASSWORD_SIZE: usize = 16;
 
 // The bit of which the judge hears: whether an Unlock carries the password. Of another packet it is judged alike.
 pub(crate) fn unlocks(password: &[u8], packet: &[u8]) -> bool
-    ensures { λ r. ⌜ ((standing : Standing) (alert wait : ℕ) → judgedOf standing alert wait (now (packet .entry)) r ≡ judgedOf standing alert wait (now (packet .entry)) (areSame (now (password .entry)) (passwordIn (now (packet .entry))))) ⌝ }
+    ensures { λ r. ⌜ ((standing : Standing) (lastRate alert wait : ℕ) → judgedOf lastRate standing alert wait (now (packet .entry)) r ≡ judgedOf lastRate standing alert wait (now (packet .entry)) (areSame (now (password .entry)) (passwordIn (now (packet .entry))))) ⌝ }
 {
     if octets::byte_at(packet, CORE_AT) != codes::UNLOCK {
         return false;
@@ -32,7 +33,7 @@ pub(crate) fn unlocks(password: &[u8], packet: &[u8]) -> bool
 
 // The bit of which the plan hears: whether a Factory reset carries the reset password. Any other effect is planned alike.
 pub(crate) fn resets(effect: Effect, password: &[u8], packet: &[u8]) -> bool
-    ensures { λ r. ⌜ ((mainSize : ℕ) (shown : Shown) (before : Memory) → planOf mainSize shown r before effect ≡ planOf mainSize shown (areSame (now (password .entry)) (resetPasswordIn (now (packet .entry)))) before effect) ⌝ }
+    ensures { λ r. ⌜ ((part : Part) (mainSize : ℕ) (shown : Shown) (before : Memory) → planOf part mainSize shown r before effect ≡ planOf part mainSize shown (areSame (now (password .entry)) (resetPasswordIn (now (packet .entry)))) before effect) ⌝ }
 {
     let Effect::Perform(task) = effect else {
         return false;

@@ -7,6 +7,7 @@ ghost use Rattle.session.specs.Starting.{sessionOf, startRead, startOf, 
 use crate::Session;
 use crate::StartAnswer;
 use crate::Started;
+use parts::Part;
 use session_state::Phase;
 use session_state::RATE_ID_AT_START;
 use session_state::Standing;
@@ -58,15 +59,15 @@ fn start_read(main_size: u32, reading: Reading) -> Started
     }
 }
 
-// Starts a session on a board: its fuse, its MAIN flash and its settings flash.
-pub fn start(fuse: bool, main: &[u8], image: &[u8]) -> Started
-    ensures { λ r. ⌜ startTold r ≡ startOf fuse (now (main .entry)) (now (image .entry)) ⌝ }
+// Starts a session on a board of this part: its fuse, its MAIN flash and its settings flash.
+pub fn start(part: Part, fuse: bool, main: &[u8], image: &[u8]) -> Started
+    ensures { λ r. ⌜ startTold r ≡ startOf part fuse (now (main .entry)) (now (image .entry)) ⌝ }
 {
     if fuse {
         return refused(StartAnswer::FuseSet);
     }
     let size = main.len();
-    if !flash::is_main_size(size) {
+    if !flash::is_main_size(part, size) {
         return refused(StartAnswer::MainSizeWrong);
     }
     start_read(size as u32, settings::read(image))

@@ -4,6 +4,7 @@ use mathlib.Core.Bool.{Bool}
 use mathlib.Core.List.{List}
 use Prim.Native.Nat.{ℕ}
 use lib.ListN.{length}
+use Rattle.parts.specs.declared.Part.{Part}
 use Rattle.line.specs.Codes as codes
 use Rattle.line.specs.declared.Guarded.the-variants.{FactoryReset}
 use Rattle.session_judge.specs.declared.Effect.{Effect}
@@ -24,20 +25,20 @@ use Rattle.session_act.specs.Acting.{planOn, carriedOn, actOf}
 abbrev pub SameLengths : Memory → Memory → Type 0
 SameLengths before after = (length (after .main) ≡ length (before .main)) × (length (after .settings) ≡ length (before .settings))
 
-pub orders-keep-lengths : (shown : Shown) (protection packet : List ℕ) (before : Memory) (order : Order)
-    → SameLengths before (carriedOut shown protection packet before order)
-orders-keep-lengths shown protection packet before Keep = (refl, refl)
-orders-keep-lengths shown protection packet before (EraseBetween start end) = (erase-keeps-length _ _ _ _ _, refl)
-orders-keep-lengths shown protection packet before EraseMain = (erase-all-keeps-length _ _ 0 0 _, refl)
-orders-keep-lengths shown protection packet before EraseBoth = (erase-all-keeps-length _ _ 0 0 _, erase-all-keeps-length _ _ 0 0 _)
-orders-keep-lengths shown protection packet before (ProgramMain offset size) = (program-keeps-length _ _ _ _ _, refl)
-orders-keep-lengths shown protection packet before (ProgramSettings offset size) = (refl, program-keeps-length _ _ _ _ _)
+pub orders-keep-lengths : (part : Part) (shown : Shown) (protection packet : List ℕ) (before : Memory) (order : Order)
+    → SameLengths before (carriedOut part shown protection packet before order)
+orders-keep-lengths part shown protection packet before Keep = (refl, refl)
+orders-keep-lengths part shown protection packet before (EraseBetween start end) = (erase-keeps-length _ _ _ _ _, refl)
+orders-keep-lengths part shown protection packet before EraseMain = (erase-all-keeps-length _ _ 0 0 _, refl)
+orders-keep-lengths part shown protection packet before EraseBoth = (erase-all-keeps-length _ _ 0 0 _, erase-all-keeps-length _ _ 0 0 _)
+orders-keep-lengths part shown protection packet before (ProgramMain offset size) = (program-keeps-length _ _ _ _ _, refl)
+orders-keep-lengths part shown protection packet before (ProgramSettings offset size) = (refl, program-keeps-length _ _ _ _ _)
 
 module _ (board : Board) (before : Memory) where
   -- no act changes the size of an image: a session whose sizes fit the images lent to it stays so
   pub act-keeps-lengths : (right : Bool) (packet : List ℕ) (effect : Effect) → SameLengths before (actOf board right packet before effect .memory)
   act-keeps-lengths right packet effect =
-      orders-keep-lengths (board .shown) (board .protection) packet before (planOn board right before effect .order)
+      orders-keep-lengths (board .part) (board .shown) (board .protection) packet before (planOn board right before effect .order)
 
   -- the alert's reset does to memory what a Factory reset does that is granted
   pub strike-erases-as-reset : (with right : Bool) (packet : List ℕ) → factoryReset (board .shown .«reset_mode») with right ≡ orders codes.success EraseBoth

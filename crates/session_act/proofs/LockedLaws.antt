@@ -11,6 +11,8 @@ use Rattle.octets.specs.Choice.{pick}
 use Rattle.octets.specs.Number.{numberOf, numberAt}
 use Rattle.octets.proofs.Searching.{pick-true, pick-false, by-test}
 use Rattle.line.specs.declared.Reply.the-variants.{Info}
+use Rattle.parts.specs.declared.Part.{Part}
+use Rattle.parts.specs.Parts.{Sound}
 use Rattle.settings.specs.declared.Shown.{Shown}
 use Rattle.flash.specs.Memory.{Memory}
 use Rattle.flash.specs.Protection.{mayChange}
@@ -20,7 +22,7 @@ use Rattle.session_judge.specs.declared.Effect.{Effect}
 use Rattle.session_judge.specs.declared.Effect.the-variants.{Say, TellInfo, Strike, Perform}
 use Rattle.session_judge.proofs.EffectTests.{isPerformed}
 use Rattle.session_act.specs.Info.{versionSize, versionAt}
-use Rattle.session_act.specs.Board.{Board, sectorSize}
+use Rattle.session_act.specs.Board.{Board}
 use Rattle.session_act.specs.declared.Order.the-variants.{Keep, EraseBoth}
 use Rattle.session_act.specs.Orders.{carriedOut}
 use Rattle.session_act.specs.Acting.{planOf, actOf}
@@ -34,10 +36,10 @@ isStrike TellInfo = false
 isStrike Strike = true
 isStrike (Perform task) = false
 
-module _ (mainSize : ℕ) (shown : Shown) (right : Bool) (before : Memory) where
+module _ (part : Part) (mainSize : ℕ) (shown : Shown) (right : Bool) (before : Memory) where
   -- all that a locked board can be told to do to memory: nothing, or the strike's erase of both regions
   pub locked-orders : (effect : Effect) → isPerformed effect ≡ false
-      → planOf mainSize shown right before effect .order ≡ pick (isStrike effect) EraseBoth Keep
+      → planOf part mainSize shown right before effect .order ≡ pick (isStrike effect) EraseBoth Keep
   unfolding pick
   locked-orders (Say reply) h = refl
   locked-orders TellInfo h = refl
@@ -46,7 +48,7 @@ module _ (mainSize : ℕ) (shown : Shown) (right : Bool) (before : Memory) where
 
   -- and no byte of memory goes with the answer, whatever memory then is
   pub locked-shows-nothing : (after : Memory) (effect : Effect) → isPerformed effect ≡ false
-      → bytesBeside after (planOf mainSize shown right before effect) ≡ []
+      → bytesBeside after (planOf part mainSize shown right before effect) ≡ []
   locked-shows-nothing after (Say reply) h = refl
   locked-shows-nothing after TellInfo h = refl
   locked-shows-nothing after Strike h = refl
@@ -57,7 +59,7 @@ module _ (mainSize : ℕ) (shown : Shown) (right : Bool) (before : Memory) where
 module _ (board : Board) (right : Bool) (packet : List ℕ) (before : Memory) where
   -- all is erased by a strike, and nothing is changed without one
   pub only-strikes-change : (P : Memory → Type 0) (effect : Effect) → isPerformed effect ≡ false
-      → (effect ≡ Strike → P (carriedOut (board .shown) (board .protection) packet before EraseBoth)) → ((effect ≡ Strike → ⊥) → P before)
+      → (effect ≡ Strike → P (carriedOut (board .part) (board .shown) (board .protection) packet before EraseBoth)) → ((effect ≡ Strike → ⊥) → P before)
       → P (actOf board right packet before effect .memory)
   only-strikes-change P (Say reply) h struck kept = kept (λ e. let z : _≡_ {A = ℕ} 0 1 = cc in omega arith)
   only-strikes-change P TellInfo h struck kept = kept (λ e. let z : _≡_ {A = ℕ} 0 1 = cc in omega arith)
@@ -79,14 +81,15 @@ module _ (oneBoard otherBoard : Board) (oneRight otherRight : Bool) (packet : Li
 
 -- ---- the version of what was erased
 
-module _ (pointer : ℕ) (protection : List ℕ) where
+-- for sectors of any size that hold each version whole
+module _ (sectorSize pointer : ℕ) (fits : pointer % versionSize ≡ 0 → pointer % sectorSize + versionSize ≤ sectorSize) (protection : List ℕ) where
   -- its four bytes stand in one sector: all of them are erased, or none
   erased-four : (main : List ℕ) → pointer % versionSize ≡ 0 → pointer + versionSize ≤ length main
       → numberAt pointer versionSize (eraseAllOf sectorSize protection main)
       ≡ pick (mayChange sectorSize protection pointer) 0xFFFFFFFF (numberAt pointer versionSize main)
   unfolding numberOf
   erased-four main aligned there =
-      let four = erase-all-in-one-sector sectorSize protection main pointer versionSize (omega arith) there in
+      let four = erase-all-in-one-sector sectorSize protection main pointer versionSize (fits aligned) there in
       by-test (mayChange sectorSize protection pointer)
       (λ y. ap numberOf (four ∙ pick-true _ _ y) ∙ sym (pick-true _ _ y))
       (λ n. ap numberOf (four ∙ pick-false _ _ n) ∙ sym (pick-false _ _ n))
@@ -107,7 +110,12 @@ module _ (pointer : ℕ) (protection : List ℕ) where
       (λ beyond. rw (aligned, erase-all-keeps-length sectorSize protection 0 0 main, beyond)))
       (λ odd. rw odd)
 
-  -- boards of one size that publish the same version do so too once all is erased
-  pub erased-versions-alike : (one other : List ℕ) → length one ≡ length other → versionAt pointer one ≡ versionAt pointer other
+  erased-alike : (one other : List ℕ) → length one ≡ length other → versionAt pointer one ≡ versionAt pointer other
       → versionAt pointer (eraseAllOf sectorSize protection one) ≡ versionAt pointer (eraseAllOf sectorSize protection other)
-  erased-versions-alike one other size same = version-left one ∙ ap₂ versionLeft size same ∙ sym (version-left other)
+  erased-alike one other size same = version-left one ∙ ap₂ versionLeft size same ∙ sym (version-left other)
+
+-- boards of one part and one size that publish the same version do so too once all is erased
+pub erased-versions-alike : (part : Part) → Sound part → (pointer : ℕ) (protection one other : List ℕ) → length one ≡ length other
+    → versionAt pointer one ≡ versionAt pointer other
+    → versionAt pointer (eraseAllOf (part .«sector_size») protection one) ≡ versionAt pointer (eraseAllOf (part .«sector_size») protection other)
+erased-versions-alike part sound pointer protection = erased-alike (part .«sector_size») pointer (sound .version pointer) protection

@@ -6,6 +6,7 @@ use Prim.Native.Nat.{ℕ, _+_, _-_, _≤_}
 use borrow.Author.Tests.{ltb-false}
 use lib.Dec.{ltb, eqb}
 use Rattle.octets.proofs.Searching.{by-pick}
+use Rattle.parts.specs.declared.Part.{Part}
 use Rattle.line.specs.declared.Guarded.{Guarded}
 use Rattle.line.specs.declared.Guarded.the-variants as guarded
 use Rattle.line.specs.declared.Reply.{Reply}
@@ -17,7 +18,7 @@ use Rattle.settings.specs.declared.Shown.{Shown}
 use Rattle.flash.specs.declared.Region.{Region}
 use Rattle.flash.specs.declared.Region.the-variants.{Main, Settings, Outside}
 use Rattle.flash.specs.declared.Place.{Place}
-use Rattle.flash.specs.Regions.{mspm0Part, nowhere, placeOf}
+use Rattle.flash.specs.Regions.{nowhere, placeOf}
 use Rattle.flash.specs.Memory.{Memory, bytesAt}
 use Rattle.session_act.specs.declared.Order.{Order}
 use Rattle.session_act.specs.declared.Order.the-variants.{Keep}
@@ -38,16 +39,16 @@ module _ (P : Planned → Type 0) (shows-none : (reply : Reply) (order : Order) 
   erase-in start end Settings = shows-none _ _
   erase-in start end Outside = shows-none _ _
 
-  range-erase : (mainSize start end : ℕ) → P (rangeErase mainSize start end)
+  range-erase : (part : Part) (mainSize start end : ℕ) → P (rangeErase part mainSize start end)
   unfolding rangeErase
-  range-erase mainSize start end =
-      by-pick P (ltb end start) _ _ (λ y. shows-none _ _) (λ n. erase-in start end (placeOf mspm0Part mainSize start (end - start + 1) .region))
+  range-erase part mainSize start end =
+      by-pick P (ltb end start) _ _ (λ y. shows-none _ _) (λ n. erase-in start end (placeOf part mainSize start (end - start + 1) .region))
 
-  program : (address size : ℕ) (place : Place) → P (programAt address size place)
+  program : (word address size : ℕ) (place : Place) → P (programAt word address size place)
   unfolding programAt
-  program address size place =
+  program word address size place =
       by-pick P (isOutside (place .region)) _ _ (λ y. shows-none _ _)
-      (λ n. by-pick P (isAligned address size) _ _ (λ y. shows-none _ _) (λ n. shows-none _ _))
+      (λ n. by-pick P (isAligned word address size) _ _ (λ y. shows-none _ _) (λ n. shows-none _ _))
 
   read-back : (readout size : ℕ) (place : Place) → P (readBackAt readout size place)
   unfolding readBackAt
@@ -66,18 +67,18 @@ module _ (P : Planned → Type 0) (shows-none : (reply : Reply) (order : Order) 
       (λ y. by-pick P (lacksResetPassword with right) _ _ (λ l. shows-none _ _) (λ h. shows-none _ _))
       (λ n. shows-none _ _))
 
-  module _ (mainSize : ℕ) (shown : Shown) (right : Bool) (memory : Memory) where
-    every-task : (task : Guarded) → P (taskPlanned mainSize shown right memory task)
-    every-task (guarded.RangeErase start end) = range-erase mainSize start end
+  module _ (part : Part) (mainSize : ℕ) (shown : Shown) (right : Bool) (memory : Memory) where
+    every-task : (task : Guarded) → P (taskPlanned part mainSize shown right memory task)
+    every-task (guarded.RangeErase start end) = range-erase part mainSize start end
     every-task guarded.MassErase = shows-none _ _
-    every-task (guarded.Program address size silent) = program address size (placeOf mspm0Part mainSize address size)
-    every-task (guarded.ReadBack address size) = read-back (shown .readout) size (placeOf mspm0Part mainSize address size)
+    every-task (guarded.Program address size silent) = program (part .«word_size») address size (placeOf part mainSize address size)
+    every-task (guarded.ReadBack address size) = read-back (shown .readout) size (placeOf part mainSize address size)
     every-task (guarded.Verify address size) = shows-none _ _
     every-task (guarded.FactoryReset with) = reset (shown .«reset_mode») with right
     every-task guarded.WrongLength = shows-none _ _
 
     -- what holds of an answer without bytes, whatever is ordered, and of so many bytes beside no order holds of every plan
-    pub every-plan : (effect : Effect) → P (planOf mainSize shown right memory effect)
+    pub every-plan : (effect : Effect) → P (planOf part mainSize shown right memory effect)
     every-plan (Say reply) = shows-none _ _
     every-plan TellInfo = shows-none _ _
     every-plan Strike = shows-none _ _
@@ -93,18 +94,18 @@ bytesBeside memory planned = bytesAt (planned .place) (planned .count) memory
 abbrev pub repliedBy : Memory → Planned → List ℕ
 repliedBy memory planned = replyBytes (planned .reply) (bytesBeside memory planned)
 
-module _ (shown : Shown) (protection packet : List ℕ) (before : Memory) (mainSize : ℕ) (right : Bool) (effect : Effect) where
+module _ (part : Part) (shown : Shown) (protection packet : List ℕ) (before : Memory) (mainSize : ℕ) (right : Bool) (effect : Effect) where
   abbrev plans : Planned
-  plans = planOf mainSize shown right before effect
+  plans = planOf part mainSize shown right before effect
 
   abbrev after : Memory
-  after = carriedOut shown protection packet before (plans .order)
+  after = carriedOut part shown protection packet before (plans .order)
 
   -- the bytes that are shown are the same before the order is carried out and after it
   pub bytes-need-no-order : bytesBeside after plans ≡ bytesBeside before plans
   bytes-need-no-order =
-      every-plan (λ planned. bytesBeside (carriedOut shown protection packet before (planned .order)) planned ≡ bytesBeside before planned)
-      (λ reply order. refl) (λ place size few. refl) mainSize shown right before effect
+      every-plan (λ planned. bytesBeside (carriedOut part shown protection packet before (planned .order)) planned ≡ bytesBeside before planned)
+      (λ reply order. refl) (λ place size few. refl) part mainSize shown right before effect
 
   -- so a reply can be written before its order is carried out, as a device does that hands the order to a driver
   pub replies-need-no-order : repliedBy after plans ≡ repliedBy before plans

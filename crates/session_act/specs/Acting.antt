@@ -2,6 +2,7 @@
 use Prim.Native.Nat.{ℕ}
 use mathlib.Core.Bool.{Bool}
 use mathlib.Core.List.{List}
+use Rattle.parts.specs.declared.Part.{Part}
 use Rattle.line.specs.Codes as codes
 use Rattle.line.specs.declared.Guarded.{Guarded}
 use Rattle.line.specs.declared.Guarded.the-variants as guarded
@@ -19,28 +20,28 @@ use Rattle.session_act.specs.Programming.{program}
 use Rattle.session_act.specs.Showing.{readBack, verify}
 
 -- a protected command of an unlocked session; "wrong L 06; then each one's own checks"
-abbrev pub taskPlanned : ℕ → Shown → Bool → Memory → Guarded → Planned
-taskPlanned mainSize shown right memory (guarded.RangeErase start end) = rangeErase mainSize start end
-taskPlanned mainSize shown right memory guarded.MassErase = massErase
-taskPlanned mainSize shown right memory (guarded.Program address size silent) = program mainSize address size
-taskPlanned mainSize shown right memory (guarded.ReadBack address size) = readBack (shown .readout) mainSize address size
-taskPlanned mainSize shown right memory (guarded.Verify address size) = verify mainSize address size memory
-taskPlanned mainSize shown right memory (guarded.FactoryReset with) = factoryReset (shown .«reset_mode») with right
-taskPlanned mainSize shown right memory guarded.WrongLength = tells codes.wrongLength
+abbrev pub taskPlanned : Part → ℕ → Shown → Bool → Memory → Guarded → Planned
+taskPlanned part mainSize shown right memory (guarded.RangeErase start end) = rangeErase part mainSize start end
+taskPlanned part mainSize shown right memory guarded.MassErase = massErase
+taskPlanned part mainSize shown right memory (guarded.Program address size silent) = program part mainSize address size
+taskPlanned part mainSize shown right memory (guarded.ReadBack address size) = readBack part (shown .readout) mainSize address size
+taskPlanned part mainSize shown right memory (guarded.Verify address size) = verify part mainSize address size memory
+taskPlanned part mainSize shown right memory (guarded.FactoryReset with) = factoryReset (shown .«reset_mode») with right
+taskPlanned part mainSize shown right memory guarded.WrongLength = tells codes.wrongLength
 
 -- what was decided is planned; the bit is whether the packet carries the reset password
-abbrev pub planOf : ℕ → Shown → Bool → Memory → Effect → Planned
-planOf mainSize shown right memory (Say reply) = says reply
-planOf mainSize shown right memory TellInfo = says (infoTold shown (memory .main))
-planOf mainSize shown right memory Strike = struck
-planOf mainSize shown right memory (Perform task) = taskPlanned mainSize shown right memory task
+abbrev pub planOf : Part → ℕ → Shown → Bool → Memory → Effect → Planned
+planOf part mainSize shown right memory (Say reply) = says reply
+planOf part mainSize shown right memory TellInfo = says (infoTold shown (memory .main))
+planOf part mainSize shown right memory Strike = struck
+planOf part mainSize shown right memory (Perform task) = taskPlanned part mainSize shown right memory task
 
 -- the plan of a board, and what its order leaves there
 abbrev pub planOn : Board → Bool → Memory → Effect → Planned
-planOn board right memory effect = planOf (board .mainSize) (board .shown) right memory effect
+planOn board right memory effect = planOf (board .part) (board .mainSize) (board .shown) right memory effect
 
 abbrev pub carriedOn : Board → List ℕ → Memory → Planned → Memory
-carriedOn board packet before planned = carriedOut (board .shown) (board .protection) packet before (planned .order)
+carriedOn board packet before planned = carriedOut (board .part) (board .shown) (board .protection) packet before (planned .order)
 
 -- the answer is the plan's, and its order is carried out
 abbrev pub actOf : Board → Bool → List ℕ → Memory → Effect → Acted

@@ -3,10 +3,11 @@ use Prim.Native.Nat.{ℕ, _+_, _-_}
 use mathlib.Core.Bool.{Bool, true, not}
 use lib.Dec.{ltb, eqb}
 use Rattle.octets.specs.Choice.{pick}
+use Rattle.parts.specs.declared.Part.{Part}
 use Rattle.line.specs.Codes as codes
 use Rattle.flash.specs.declared.Region.{Region}
 use Rattle.flash.specs.declared.Region.the-variants.{Main, Settings, Outside}
-use Rattle.flash.specs.Regions.{mspm0Part, placeOf}
+use Rattle.flash.specs.Regions.{placeOf}
 use Rattle.session_act.specs.declared.Order.the-variants.{EraseBetween, EraseMain, EraseBoth}
 use Rattle.session_act.specs.declared.Planned.{Planned}
 use Rattle.session_act.specs.Plans.{tells, orders}
@@ -18,9 +19,9 @@ rangeEraseIn start end Settings = tells codes.invalidRange
 rangeEraseIn start end Outside = tells codes.invalidRange
 
 -- "0x23 Range erase, protected, L 9: start above end or either outside MAIN: 05." The range has end - start + 1 bytes.
-unfoldable pub rangeErase : ℕ → ℕ → ℕ → Planned
-rangeErase mainSize start end =
-    pick (ltb end start) (tells codes.invalidRange) (rangeEraseIn start end (placeOf mspm0Part mainSize start (end - start + 1) .region))
+unfoldable pub rangeErase : Part → ℕ → ℕ → ℕ → Planned
+rangeErase part mainSize start end =
+    pick (ltb end start) (tells codes.invalidRange) (rangeEraseIn start end (placeOf part mainSize start (end - start + 1) .region))
 
 -- "0x15 Mass erase, protected, L 1: all MAIN; 00."
 abbrev pub massErase : Planned

@@ -2,6 +2,7 @@
 -- "Protected places keep their bytes in every erase and program": that stands in eraseOf, eraseAllOf and programOf.
 use Prim.Native.Nat.{ℕ, _/_}
 use mathlib.Core.List.{List}
+use Rattle.parts.specs.declared.Part.{Part}
 use Rattle.line.specs.Packet.{dataIn}
 use Rattle.settings.specs.declared.Shown.{Shown}
 use Rattle.flash.specs.Memory.{Memory, memory}
@@ -9,21 +10,21 @@ use Rattle.flash.specs.Erasing.{eraseOf, eraseAllOf}
 use Rattle.flash.specs.Programming.{programOf}
 use Rattle.session_act.specs.declared.Order.{Order}
 use Rattle.session_act.specs.declared.Order.the-variants.{Keep, EraseBetween, EraseMain, EraseBoth, ProgramMain, ProgramSettings}
-use Rattle.session_act.specs.Board.{sectorSize, settingsProtection}
+use Rattle.session_act.specs.Board.{settingsProtection}
 
 -- what an order leaves; the data of a program are those of the packet
-abbrev pub carriedOut : Shown → List ℕ → List ℕ → Memory → Order → Memory
-carriedOut shown protection packet before Keep = before
+abbrev pub carriedOut : Part → Shown → List ℕ → List ℕ → Memory → Order → Memory
+carriedOut part shown protection packet before Keep = before
 -- "Every sector from start's to end's becomes 0xFF"
-carriedOut shown protection packet before (EraseBetween start end) =
-    memory (eraseOf sectorSize protection (start / sectorSize) (end / sectorSize) (before .main)) (before .settings)
+carriedOut part shown protection packet before (EraseBetween start end) =
+    memory (eraseOf (part .«sector_size») protection (start / part .«sector_size») (end / part .«sector_size») (before .main)) (before .settings)
 -- "all MAIN"
-carriedOut shown protection packet before EraseMain = memory (eraseAllOf sectorSize protection (before .main)) (before .settings)
+carriedOut part shown protection packet before EraseMain = memory (eraseAllOf (part .«sector_size») protection (before .main)) (before .settings)
 -- "MAIN and settings become 0xFF"
-carriedOut shown protection packet before EraseBoth =
-    memory (eraseAllOf sectorSize protection (before .main)) (eraseAllOf sectorSize (settingsProtection shown) (before .settings))
+carriedOut part shown protection packet before EraseBoth =
+    memory (eraseAllOf (part .«sector_size») protection (before .main)) (eraseAllOf (part .«sector_size») (settingsProtection shown) (before .settings))
 -- "Each byte becomes old AND new"
-carriedOut shown protection packet before (ProgramMain offset size) =
-    memory (programOf sectorSize protection offset (dataIn size packet) (before .main)) (before .settings)
-carriedOut shown protection packet before (ProgramSettings offset size) =
-    memory (before .main) (programOf sectorSize (settingsProtection shown) offset (dataIn size packet) (before .settings))
+carriedOut part shown protection packet before (ProgramMain offset size) =
+    memory (programOf (part .«sector_size») protection offset (dataIn size packet) (before .main)) (before .settings)
+carriedOut part shown protection packet before (ProgramSettings offset size) =
+    memory (before .main) (programOf (part .«sector_size») (settingsProtection shown) offset (dataIn size packet) (before .settings))

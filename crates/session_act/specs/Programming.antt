@@ -1,25 +1,22 @@
 -- 01, Commands: 0x20 Program, and 0x24 likewise.
-use Prim.Native.Nat.{ℕ, _%_}
+use Prim.Native.Nat.{ℕ}
 use mathlib.Core.Bool.{Bool, true, false}
-use lib.Dec.{eqb}
 use Rattle.octets.specs.Choice.{pick}
+use Rattle.octets.specs.Number.{isMultiple}
+use Rattle.parts.specs.declared.Part.{Part}
 use Rattle.line.specs.Codes as codes
 use Rattle.flash.specs.declared.Region.{Region}
 use Rattle.flash.specs.declared.Region.the-variants.{Main, Settings, Outside}
 use Rattle.flash.specs.declared.Place.{Place}
-use Rattle.flash.specs.Regions.{mspm0Part, placeOf}
+use Rattle.flash.specs.Regions.{placeOf}
 use Rattle.session_act.specs.declared.Order.{Order}
 use Rattle.session_act.specs.declared.Order.the-variants.{Keep, ProgramMain, ProgramSettings}
 use Rattle.session_act.specs.declared.Planned.{Planned}
 use Rattle.session_act.specs.Plans.{tells, orders}
 
--- "a multiple of 8"
-abbrev pub wordSize : ℕ
-wordSize = 8
-
--- "Address or data size not a multiple of 8"
-unfoldable pub isAligned : ℕ → ℕ → Bool
-isAligned address size = pick (eqb (address % wordSize) 0) (eqb (size % wordSize) 0) false
+-- "Address or data size not a multiple of 8", the part's word
+unfoldable pub isAligned : ℕ → ℕ → ℕ → Bool
+isAligned word address size = pick (isMultiple address word) (isMultiple size word) false
 
 -- "not wholly in one region: 05"
 abbrev pub isOutside : Region → Bool
@@ -35,11 +32,11 @@ programIn offset size Outside = Keep
 
 -- "0x20 Program, protected, L from 6: not wholly in one region: 05. Address or data size not a multiple of 8: 0A. Each byte becomes
 -- old AND new; 00."
-unfoldable pub programAt : ℕ → ℕ → Place → Planned
-programAt address size place =
+unfoldable pub programAt : ℕ → ℕ → ℕ → Place → Planned
+programAt word address size place =
     pick (isOutside (place .region)) (tells codes.invalidRange)
-    (pick (isAligned address size) (orders codes.success (programIn (place .offset) size (place .region))) (tells codes.notAligned))
+    (pick (isAligned word address size) (orders codes.success (programIn (place .offset) size (place .region))) (tells codes.notAligned))
 
 -- the place is that of so many bytes from the address on
-abbrev pub program : ℕ → ℕ → ℕ → Planned
-program mainSize address size = programAt address size (placeOf mspm0Part mainSize address size)
+abbrev pub program : Part → ℕ → ℕ → ℕ → Planned
+program part mainSize address size = programAt (part .«word_size») address size (placeOf part mainSize address size)

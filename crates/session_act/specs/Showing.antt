@@ -4,11 +4,12 @@ use lib.Dec.{ltb, eqb}
 use Rattle.octets.specs.Choice.{pick}
 use Rattle.checksum.specs.Checksum.{checksumOf}
 use Rattle.line.specs.Codes as codes
+use Rattle.parts.specs.declared.Part.{Part}
 use Rattle.line.specs.declared.Reply.{Reply}
 use Rattle.line.specs.declared.Reply.the-variants.{Message, Bytes, Sum}
 use Rattle.line.specs.Replies.{readBackMost}
 use Rattle.flash.specs.declared.Place.{Place}
-use Rattle.flash.specs.Regions.{mspm0Part, placeOf}
+use Rattle.flash.specs.Regions.{placeOf}
 use Rattle.flash.specs.Memory.{Memory, bytesAt}
 use Rattle.session_act.specs.declared.Order.the-variants.{Keep}
 use Rattle.session_act.specs.declared.Planned.{Planned}
@@ -29,24 +30,17 @@ readBackAt readout size place =
     (tells codes.readoutOff)
 
 -- the place is that of so many bytes from the address on
-abbrev pub readBack : ℕ → ℕ → ℕ → ℕ → Planned
-readBack readout mainSize address size = readBackAt readout size (placeOf mspm0Part mainSize address size)
-
--- "size under 1,024", "size above 65,536"
-abbrev pub verifyLeast : ℕ
-verifyLeast = 1024
-
-abbrev pub verifyMost : ℕ
-verifyMost = 65536
+abbrev pub readBack : Part → ℕ → ℕ → ℕ → ℕ → Planned
+readBack part readout mainSize address size = readBackAt readout size (placeOf part mainSize address size)
 
 -- "0x26 Verify, protected, L 9: size under 1,024: 0B; size above 65,536: 05; not in one region 05; else 32 and the checksum."
-unfoldable pub verifyAt : ℕ → Memory → Place → Reply
-verifyAt size memory place =
-    pick (ltb size verifyLeast) (Message codes.tooSmall)
-    (pick (ltb verifyMost size) (Message codes.invalidRange)
+unfoldable pub verifyAt : Part → ℕ → Memory → Place → Reply
+verifyAt part size memory place =
+    pick (ltb size (part .«least_verify»)) (Message codes.tooSmall)
+    (pick (ltb (part .«most_main») size) (Message codes.invalidRange)
     (pick (isOutside (place .region)) (Message codes.invalidRange)
     (Sum (checksumOf (bytesAt place size memory)))))
 
 -- the place is that of so many bytes from the address on
-abbrev pub verify : ℕ → ℕ → ℕ → Memory → Planned
-verify mainSize address size memory = says (verifyAt size memory (placeOf mspm0Part mainSize address size))
+abbrev pub verify : Part → ℕ → ℕ → ℕ → Memory → Planned
+verify part mainSize address size memory = says (verifyAt part size memory (placeOf part mainSize address size))

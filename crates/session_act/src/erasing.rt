@@ -3,24 +3,24 @@ ghost use mathlib.Core.Path.{_≡_};
 ghost use Rattle.session_act.specs.Erasing.{rangeErase, factoryReset};
 use crate::Order;
 use crate::Planned;
-use crate::part;
 use crate::plans;
 use flash::Region;
 use line::codes;
+use parts::Part;
 
 const MODE_OFF: u8 = 0;
 
 const MODE_WITH_PASSWORD: u8 = 2;
 
 // The sectors from start's to end's, where the whole range lies in MAIN. The count is of 64 bits, so it does not wrap.
-pub(crate) fn range_erase(main_size: u32, start: u32, end: u32) -> Planned
-    ensures { λ r. ⌜ r ≡ rangeErase «main_size» start end ⌝ }
+pub(crate) fn range_erase(part: Part, main_size: u32, start: u32, end: u32) -> Planned
+    ensures { λ r. ⌜ r ≡ rangeErase part «main_size» start end ⌝ }
 {
     if end < start {
         return plans::tells(codes::INVALID_RANGE);
     }
     let count = (end - start) as u64 + 1;
-    let place = part::locate(main_size, start, count);
+    let place = flash::locate(part, main_size, start, count);
     let region = place.region;
     let Region::Main = region else {
         return plans::tells(codes::INVALID_RANGE);

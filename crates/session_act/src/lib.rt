@@ -1,7 +1,6 @@
 // Acting: what was judged is planned, and the plan is carried out on memory.
 mod erasing;
 mod orders;
-mod part;
 mod planning;
 mod plans;
 mod programming;

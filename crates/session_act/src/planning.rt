@@ -11,11 +11,13 @@ use crate::showing;
 use crate::telling;
 use line::Guarded;
 use line::codes;
+use parts::Part;
 use session_judge::Effect;
 use settings::Shown;
 
 // A protected command of an unlocked session.
 fn plan_task<'a>(
+    part: Part,
     task: Guarded,
     shown: Shown,
     main_size: u32,
@@ -23,21 +25,21 @@ fn plan_task<'a>(
     main: &'a [u8],
     image: &'a [u8],
 ) -> Planned
-    ensures { λ r. ⌜ r ≡ taskPlanned «main_size» shown right (memory (now (main .entry)) (now (image .entry))) task ⌝ }
+    ensures { λ r. ⌜ r ≡ taskPlanned part «main_size» shown right (memory (now (main .entry)) (now (image .entry))) task ⌝ }
 {
     match task {
-        Guarded::RangeErase { start, end } => erasing::range_erase(main_size, start, end),
+        Guarded::RangeErase { start, end } => erasing::range_erase(part, main_size, start, end),
         Guarded::MassErase => plans::orders(codes::SUCCESS, Order::EraseMain),
         Guarded::Program {
             address,
             size,
             silent: _,
-        } => programming::program(main_size, address, size),
+        } => programming::program(part, main_size, address, size),
         Guarded::ReadBack { address, size } => {
-            showing::read_back(shown.readout, main_size, address, size)
+            showing::read_back(part, shown.readout, main_size, address, size)
         }
         Guarded::Verify { address, size } => {
-            plans::says(showing::verify(main_size, address, size, main, image))
+            plans::says(showing::verify(part, main_size, address, size, main, image))
         }
         Guarded::FactoryReset { with_password } => {
             erasing::factory_reset(shown.reset_mode, with_password, right)
@@ -48,6 +50,7 @@ fn plan_task<'a>(
 
 // Plans what was decided of a packet. `right` is whether the packet carries the session's reset password.
 pub fn plan<'a>(
+    part: Part,
     effect: Effect,
     shown: Shown,
     main_size: u32,
@@ -55,12 +58,12 @@ pub fn plan<'a>(
     main: &'a [u8],
     image: &'a [u8],
 ) -> Planned
-    ensures { λ r. ⌜ r ≡ planOf «main_size» shown right (memory (now (main .entry)) (now (image .entry))) effect ⌝ }
+    ensures { λ r. ⌜ r ≡ planOf part «main_size» shown right (memory (now (main .entry)) (now (image .entry))) effect ⌝ }
 {
     match effect {
         Effect::Say(reply) => plans::says(reply),
         Effect::TellInfo => plans::says(telling::info(shown, main)),
         Effect::Strike => plans::orders(codes::ALERT_TAKEN, Order::EraseBoth),
-        Effect::Perform(task) => plan_task(task, shown, main_size, right, main, image),
+        Effect::Perform(task) => plan_task(part, task, shown, main_size, right, main, image),
     }
 }

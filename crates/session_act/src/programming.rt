@@ -3,20 +3,18 @@ ghost use mathlib.Core.Path.{_≡_};
 ghost use Rattle.session_act.specs.Programming.{isAligned, programIn, program};
 use crate::Order;
 use crate::Planned;
-use crate::part;
 use crate::plans;
 use flash::Region;
 use line::codes;
+use parts::Part;
 
-const WORD_SIZE: u32 = 8;
-
-fn is_aligned(address: u32, size: u32) -> bool
-    ensures { λ r. ⌜ r ≡ isAligned address size ⌝ }
+fn is_aligned(word: u32, address: u32, size: u32) -> bool
+    ensures { λ r. ⌜ r ≡ isAligned word address size ⌝ }
 {
-    if address % WORD_SIZE != 0 {
+    if !octets::is_multiple(address as u64, word as u64) {
         return false;
     }
-    size % WORD_SIZE == 0
+    octets::is_multiple(size as u64, word as u64)
 }
 
 // The order that programs a region from a place on.
@@ -31,16 +29,16 @@ fn program_in(region: Region, offset: usize, size: u32) -> Order
 }
 
 // Programs the region that holds the range wholly.
-pub(crate) fn program(main_size: u32, address: u32, size: u32) -> Planned
-    ensures { λ r. ⌜ r ≡ program «main_size» address size ⌝ }
+pub(crate) fn program(part: Part, main_size: u32, address: u32, size: u32) -> Planned
+    ensures { λ r. ⌜ r ≡ program part «main_size» address size ⌝ }
 {
-    let place = part::locate(main_size, address, size as u64);
+    let place = flash::locate(part, main_size, address, size as u64);
     let region = place.region;
     let offset = place.offset;
     if let Region::Outside = region {
         return plans::tells(codes::INVALID_RANGE);
     }
-    if !is_aligned(address, size) {
+    if !is_aligned(part.word_size, address, size) {
         return plans::tells(codes::NOT_ALIGNED);
     }
     plans::orders(codes::SUCCESS, program_in(region, offset, size))

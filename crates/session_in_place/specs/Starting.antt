@@ -4,6 +4,7 @@ use mathlib.Core.Bool.{Bool}
 use mathlib.Core.List.{List}
 use lib.Dec.{eqb}
 use Rattle.octets.specs.Choice.{pick}
+use Rattle.parts.specs.Parts.{mspm0}
 use Rattle.settings.specs.Answers.{Numbered}
 use Rattle.session.specs.declared.Session.{Session}
 use Rattle.session.specs.StartAnswers.{StartTold}
@@ -19,4 +20,4 @@ kept session told = pick (eqb (told .answer .number) 0) told (startLeft (told .a
 
 -- "keeps one session record and hands it to each call to be updated"
 unfoldable pub startInPlace : Session → Bool → List ℕ → List ℕ → StartTold
-startInPlace session fuse main settings = kept session (startOf fuse main settings)
+startInPlace session fuse main settings = kept session (startOf mspm0 fuse main settings)

@@ -1,5 +1,6 @@
 // One call of a session, whose record is lent.
 ghost use mathlib.Core.Path.{_≡_};
+ghost use Rattle.parts.specs.Parts.{mspm0};
 ghost use Rattle.flash.specs.Memory.{memory};
 ghost use Rattle.session.specs.CallAnswers.{callNumbered, left};
 ghost use Rattle.session.specs.Calling.{callOf};
@@ -15,9 +16,9 @@ pub fn call(
     packet: &[u8],
     area: &mut [u8],
 ) -> CallAnswer
-    ensures { λ r. ⌜ left (callNumbered r) (now (session .exit)) (memory (now (main .exit)) (now (image .exit))) (now (area .exit)) ≡ callOf (now (session .entry)) (memory (now (main .entry)) (now (image .entry))) wait (now (packet .entry)) (now (area .entry)) ⌝ }
+    ensures { λ r. ⌜ left (callNumbered r) (now (session .exit)) (memory (now (main .exit)) (now (image .exit))) (now (area .exit)) ≡ callOf mspm0 (now (session .entry)) (memory (now (main .entry)) (now (image .entry))) wait (now (packet .entry)) (now (area .entry)) ⌝ }
 {
-    let called = session::call(*session, main, image, wait, packet, area);
+    let called = mspm0::call(*session, main, image, wait, packet, area);
     *session = called.session;
     called.answer
 }

@@ -10,7 +10,7 @@ use session::Started;
 fn start_or_keep(session: Session, fuse: bool, main: &[u8], image: &[u8]) -> Started
     ensures { λ r. ⌜ startTold r ≡ startInPlace session fuse (now (main .entry)) (now (image .entry)) ⌝ }
 {
-    let started = session::start(fuse, main, image);
+    let started = mspm0::start(fuse, main, image);
     let answer = started.answer;
     if let StartAnswer::Started = answer {
         return started;
@@ -18,7 +18,7 @@ fn start_or_keep(session: Session, fuse: bool, main: &[u8], image: &[u8]) -> Sta
     Started { answer, session }
 }
 
-// The start of `session`; the record becomes the session. A refused start leaves it as it was.
+// The start of `mspm0`; the record becomes the session. A refused start leaves it as it was.
 pub fn start(session: &mut Session, fuse: bool, main: &[u8], image: &[u8]) -> StartAnswer
     ensures { λ r. ⌜ startLeft (startNumbered r) (now (session .exit)) ≡ startInPlace (now (session .entry)) fuse (now (main .entry)) (now (image .entry)) ⌝ }
 {

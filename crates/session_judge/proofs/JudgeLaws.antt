@@ -12,7 +12,7 @@ use Rattle.session_state.specs.declared.Phase.{Phase}
 use Rattle.session_state.specs.declared.Phase.the-variants.{Detect, Command, Standby, Ended, Disabled}
 use Rattle.session_state.specs.declared.Standing.{Standing}
 use Rattle.session_state.specs.declared.Passed.{Passed}
-use Rattle.session_state.specs.Phases.{mostWrong, isUnlocked, isValid}
+use Rattle.session_state.specs.Phases.{rateIdAtStart, mostWrong, isUnlocked, isValid}
 use Rattle.session_state.specs.Waits.{movedTo, dropped, passTimeIn, passTime}
 use Rattle.session_state.proofs.PhaseLaws.{Valid, valid-by-parts, parts-make-valid}
 use Rattle.session_state.proofs.WaitLaws.{time-keeps-valid, time-keeps-wrong-count-and-rate, time-never-unlocks, long-wait-is-heard}
@@ -35,38 +35,38 @@ isOver Standby = true
 isOver Ended = true
 isOver Disabled = true
 
-module _ (standing : Standing) (alert wait : ℕ) (packet : List ℕ) (right : Bool) where
+module _ (lastRate : ℕ) (standing : Standing) (alert wait : ℕ) (packet : List ℕ) (right : Bool) where
   -- ---- what every packet keeps
 
   -- no packet leaves a record that the next call refuses
-  pub judge-keeps-valid : isValid standing ≡ true → isValid (judgedOf standing alert wait packet right .standing) ≡ true
+  pub judge-keeps-valid : rateIdAtStart ≤ lastRate → isValid lastRate standing ≡ true → isValid lastRate (judgedOf lastRate standing alert wait packet right .standing) ≡ true
   unfolding pick
-  judge-keeps-valid h =
-      let v = valid-by-parts _ (time-keeps-valid standing wait h) in
-      judged-by-outcome (λ j. isValid (j .standing) ≡ true) alert right standing wait packet
-      (parts-make-valid _ (record { idle = omega arith; wrong = v .wrong; rate = v .rate; phase = refl }))
+  judge-keeps-valid two h =
+      let v = valid-by-parts lastRate _ (time-keeps-valid lastRate standing wait h) in
+      judged-by-outcome lastRate (λ j. isValid lastRate (j .standing) ≡ true) alert right standing wait packet
+      (parts-make-valid lastRate _ (record { idle = omega arith; wrong = v .wrong; rate = v .rate; phase = refl }))
       (λ idle less.
-      let k : Valid (movedTo (passTime standing wait .standing) (passTime standing wait .standing .phase) idle)
+      let k : Valid lastRate (movedTo (passTime standing wait .standing) (passTime standing wait .standing .phase) idle)
       = record { idle = omega arith; wrong = v .wrong; rate = v .rate; phase = v .phase } in
       record {
-        said = λ reply. parts-make-valid _ k;
-        informed = parts-make-valid _ k;
-        performed = λ task u. parts-make-valid _ k;
-        ended = parts-make-valid _ (record { idle = k .idle; wrong = k .wrong; rate = k .rate; phase = refl });
-        rated = λ id known. parts-make-valid _ (record { idle = k .idle; wrong = k .wrong; rate = known; phase = k .phase });
-        unlocked = λ y. parts-make-valid _ (record { idle = k .idle; wrong = omega arith; rate = k .rate; phase = refl });
-        wrong = λ n few. wrong-is-valid _ asleep k refl;
-        struck = λ n third e. wrong-is-valid _ asleep k refl;
-        disabled = λ n third e. wrong-is-valid _ Disabled k refl;
-        warned = λ n third e. wrong-is-valid _ asleep k refl;
+        said = λ reply. parts-make-valid lastRate _ k;
+        informed = parts-make-valid lastRate _ k;
+        performed = λ task u. parts-make-valid lastRate _ k;
+        ended = parts-make-valid lastRate _ (record { idle = k .idle; wrong = k .wrong; rate = k .rate; phase = refl });
+        rated = λ id known. parts-make-valid lastRate _ (record { idle = k .idle; wrong = k .wrong; rate = known; phase = k .phase });
+        unlocked = λ y. parts-make-valid lastRate _ (record { idle = k .idle; wrong = omega arith; rate = k .rate; phase = refl });
+        wrong = λ n few. wrong-is-valid lastRate two _ asleep k refl;
+        struck = λ n third e. wrong-is-valid lastRate two _ asleep k refl;
+        disabled = λ n third e. wrong-is-valid lastRate two _ Disabled k refl;
+        warned = λ n third e. wrong-is-valid lastRate two _ asleep k refl;
       })
 
   -- a locked session stays locked while no packet carries its password
-  pub wrong-never-unlocks : right ≡ false → isUnlocked (judgedOf standing alert wait packet right .standing .phase) ≡ true
+  pub wrong-never-unlocks : right ≡ false → isUnlocked (judgedOf lastRate standing alert wait packet right .standing .phase) ≡ true
       → isUnlocked (standing .phase) ≡ true
   wrong-never-unlocks w =
       let before = time-never-unlocks standing wait in
-      judged-by-outcome (λ j. isUnlocked (j .standing .phase) ≡ true → isUnlocked (standing .phase) ≡ true) alert right standing wait packet
+      judged-by-outcome lastRate (λ j. isUnlocked (j .standing .phase) ≡ true → isUnlocked (standing .phase) ≡ true) alert right standing wait packet
       never
       (λ idle less.
       record {
@@ -83,12 +83,12 @@ module _ (standing : Standing) (alert wait : ℕ) (packet : List ℕ) (right : B
       })
 
   -- three wrong passwords stay counted while no packet carries the right one
-  pub wrong-count-rises : isValid standing ≡ true → right ≡ false → standing .wrong ≤ judgedOf standing alert wait packet right .standing .wrong
+  pub wrong-count-rises : isValid lastRate standing ≡ true → right ≡ false → standing .wrong ≤ judgedOf lastRate standing alert wait packet right .standing .wrong
   wrong-count-rises h w =
-      let few = valid-by-parts standing h .wrong in
+      let few = valid-by-parts lastRate standing h .wrong in
       let same = time-keeps-wrong-count-and-rate standing wait .0 in
       let more = counted-up (passTime standing wait .standing .wrong) .0 (omega arith) in
-      judged-by-outcome (λ j. standing .wrong ≤ j .standing .wrong) alert right standing wait packet
+      judged-by-outcome lastRate (λ j. standing .wrong ≤ j .standing .wrong) alert right standing wait packet
       (omega arith)
       (λ idle less.
       record {
@@ -115,9 +115,9 @@ module _ (standing : Standing) (alert wait : ℕ) (packet : List ℕ) (right : B
   quiet : {j : Judged} → isPerformed (j .effect) ≡ false → isStrike (j .effect) ≡ false → j .burn ≡ false → Tells j
   quiet p s b = record { performed = λ h. never (sym p ∙ h); struck = λ h. never (sym s ∙ h); burnt = λ h. never (sym b ∙ h) }
 
-  tells : Tells (judgedOf standing alert wait packet right)
+  tells : Tells (judgedOf lastRate standing alert wait packet right)
   tells =
-      judged-by-outcome Tells alert right standing wait packet
+      judged-by-outcome lastRate Tells alert right standing wait packet
       (quiet refl refl refl)
       (λ idle less.
       record {
@@ -139,28 +139,28 @@ module _ (standing : Standing) (alert wait : ℕ) (packet : List ℕ) (right : B
       })
 
   -- while a session is locked only the alert touches memory, and only Info shows some of it
-  pub locked-performs-nothing : isUnlocked (standing .phase) ≡ false → isPerformed (judgedOf standing alert wait packet right .effect) ≡ false
+  pub locked-performs-nothing : isUnlocked (standing .phase) ≡ false → isPerformed (judgedOf lastRate standing alert wait packet right .effect) ≡ false
   locked-performs-nothing shut =
-      by-test (isPerformed (judgedOf standing alert wait packet right .effect))
+      by-test (isPerformed (judgedOf lastRate standing alert wait packet right .effect))
       (λ y. absurd (true≢false (sym (tells .performed y) ∙ shut)))
       (λ n. n)
 
   -- an erase that no command asked for is the alert's, with three wrong passwords counted
-  pub strikes-at-three : judgedOf standing alert wait packet right .effect ≡ Strike
-      → (alert ≡ alertReset) × (judgedOf standing alert wait packet right .standing .wrong ≡ mostWrong)
+  pub strikes-at-three : judgedOf lastRate standing alert wait packet right .effect ≡ Strike
+      → (alert ≡ alertReset) × (judgedOf lastRate standing alert wait packet right .standing .wrong ≡ mostWrong)
   strikes-at-three e = tells .struck (ap isStrike e)
 
   -- the fuse is burnt by the alert that disables, and by nothing else
-  pub burns-when-disabled : judgedOf standing alert wait packet right .burn ≡ true
-      → (alert ≡ alertDisable) × (judgedOf standing alert wait packet right .standing .phase ≡ Disabled)
+  pub burns-when-disabled : judgedOf lastRate standing alert wait packet right .burn ≡ true
+      → (alert ≡ alertDisable) × (judgedOf lastRate standing alert wait packet right .standing .phase ≡ Disabled)
   burns-when-disabled = tells .burnt
 
   -- the erase comes at the very call in which the count reaches three: from then on the flash is erased
   pub third-wrong-strikes : alert ≡ alertReset → standing .wrong < mostWrong
-      → judgedOf standing alert wait packet right .standing .wrong ≡ mostWrong → judgedOf standing alert wait packet right .effect ≡ Strike
+      → judgedOf lastRate standing alert wait packet right .standing .wrong ≡ mostWrong → judgedOf lastRate standing alert wait packet right .effect ≡ Strike
   third-wrong-strikes reset few =
       let same = time-keeps-wrong-count-and-rate standing wait .0 in
-      judged-by-outcome (λ j. j .standing .wrong ≡ mostWrong → j .effect ≡ Strike) alert right standing wait packet
+      judged-by-outcome lastRate (λ j. j .standing .wrong ≡ mostWrong → j .effect ≡ Strike) alert right standing wait packet
       (λ h. absurd (omega arith))
       (λ idle less.
       record {
@@ -186,18 +186,18 @@ module _ (standing : Standing) (alert wait : ℕ) (packet : List ℕ) (right : B
   over-is-dropped Disabled h = refl
 
   -- 01, Phases and waits, (a): "in standby, ended and disabled: no reply, no change"
-  pub silent-phases : isOver (standing .phase) ≡ true → judgedOf standing alert wait packet right ≡ silently standing
+  pub silent-phases : isOver (standing .phase) ≡ true → judgedOf lastRate standing alert wait packet right ≡ silently standing
   unfolding judgedOf heardAfter passTime pick
-  silent-phases h = ap (λ (passed : Passed). heardAfter passed alert packet right) (over-is-dropped (standing .phase) h)
+  silent-phases h = ap (λ (passed : Passed). heardAfter lastRate passed alert packet right) (over-is-dropped (standing .phase) h)
 
   -- 01, Unlock: "the answer of that call, and of no other, tells the board to burn its fuse"
-  pub disabled-burns-no-more : standing .phase ≡ Disabled → judgedOf standing alert wait packet right .burn ≡ false
+  pub disabled-burns-no-more : standing .phase ≡ Disabled → judgedOf lastRate standing alert wait packet right .burn ≡ false
   disabled-burns-no-more e = ap (λ (j : Judged). j .burn) (silent-phases (ap isOver e))
 
   -- "With waits of 2,000 or more, no packet of the command phase is ever dropped."
-  pub long-wait-is-judged : (unlocked : Bool) (sleep : ℕ) → isValid standing ≡ true → standing .phase ≡ Command unlocked sleep → 2000 ≤ wait
-      → judgedOf standing alert wait packet right
+  pub long-wait-is-judged : (unlocked : Bool) (sleep : ℕ) → isValid lastRate standing ≡ true → standing .phase ≡ Command unlocked sleep → 2000 ≤ wait
+      → judgedOf lastRate standing alert wait packet right
       ≡ pick (eqb (length packet) 0) (silently (passTime standing wait .standing))
-      (heardIn (passTime standing wait .standing) alert packet right (passTime standing wait .standing .phase))
+      (heardIn lastRate (passTime standing wait .standing) alert packet right (passTime standing wait .standing .phase))
   unfolding judgedOf heardAfter
-  long-wait-is-judged unlocked sleep h e long = pick-true _ _ (long-wait-is-heard standing wait unlocked sleep h e long)
+  long-wait-is-judged unlocked sleep h e long = pick-true _ _ (long-wait-is-heard lastRate standing wait unlocked sleep h e long)

@@ -4,7 +4,7 @@ use mathlib.Core.Bool.{Bool, true, false}
 use mathlib.Core.List.{List}
 use Prim.Native.Nat.{ℕ, _≤_, _<_}
 use native.Mathlib.Omega.{arith}
-use borrow.Author.Tests.{eqb-true, eqb-false, ltb-true, ltb-false, le-leb, le-ltb}
+use borrow.Author.Tests.{eqb-true, eqb-false, ltb-true, ltb-false}
 use lib.Dec.{ltb, eqb}
 use lib.ListN.{length}
 use Rattle.octets.specs.Choice.{pick}
@@ -30,21 +30,14 @@ use Rattle.session_judge.specs.Unlocking.{afterRight, countedUp, afterWr
 use Rattle.session_judge.specs.Obeying.{withRate, obeyed}
 use Rattle.session_judge.specs.Hearing.{detected, heardInDetect, stirred, heardInCommand, heardIn, heardAfter, judgedOf}
 
--- the id of an acknowledged Rate is a rate's
-asked-is-rate : (packet : List ℕ) → acknowledgement packet ≡ codes.acknowledged → (id : ℕ) → commandOf packet ≡ command.Rate id → isRate id ≡ true
-unfolding isRate pick
-asked-is-rate packet fine id e =
-    let known = rate-is-known packet fine id e in
-    rw (le-ltb id 1 (known .0), le-leb id 9 (known .1))
-
-module _ (P : Judged → Type 0) (alert : ℕ) (right : Bool) where
+module _ (lastRate : ℕ) (P : Judged → Type 0) (alert : ℕ) (right : Bool) where
   -- what is to be shown of each way, to show it of every packet that finds a session standing so
   pub record AtEach (standing : Standing) : Type 0 where
     pub said : (reply : Reply) → P (says standing reply)
     pub informed : P (judged standing TellInfo)
     pub performed : (task : Guarded) → isUnlocked (standing .phase) ≡ true → P (judged standing (Perform task))
     pub ended : P (says (movedTo standing phase.Ended (standing .idle)) (Acknowledged codes.acknowledged))
-    pub rated : (id : ℕ) → isRate id ≡ true → P (says (withRate standing id) (Acknowledged codes.acknowledged))
+    pub rated : (id : ℕ) → isRate lastRate id ≡ true → P (says (withRate standing id) (Acknowledged codes.acknowledged))
     pub unlocked : right ≡ true → P (says (afterRight standing) (Message codes.success))
     pub wrong : right ≡ false → countedUp (standing .wrong) < mostWrong
         → P (says (afterWrong standing asleep) (Message codes.passwordWrong))
@@ -74,7 +67,7 @@ module _ (P : Judged → Type 0) (alert : ℕ) (right : Bool) where
     by-password = by-pick P right _ _ (each .unlocked) by-wrong
 
     by-command : (unlocked : Bool) (asked : Command) → isUnlocked (standing .phase) ≡ unlocked
-        → ((id : ℕ) → asked ≡ command.Rate id → isRate id ≡ true) → P (obeyed standing alert unlocked right asked)
+        → ((id : ℕ) → asked ≡ command.Rate id → isRate lastRate id ≡ true) → P (obeyed standing alert unlocked right asked)
     by-command unlocked command.Connect l k = each .said _
     by-command unlocked command.Info l k = each .informed
     by-command unlocked command.Unlock l k = by-password
@@ -101,22 +94,22 @@ module _ (P : Judged → Type 0) (alert : ℕ) (right : Bool) where
       by-detected command.WrongLength = still _
       by-detected command.Unknown = still _
 
-      in-detect : (packet : List ℕ) → P (heardInDetect after packet)
+      in-detect : (packet : List ℕ) → P (heardInDetect lastRate after packet)
       unfolding heardInDetect
-      in-detect packet = by-pick P (eqb (acknowledgement packet) codes.acknowledged) _ _ (λ y. by-detected (commandOf packet)) (λ n. still _)
+      in-detect packet = by-pick P (eqb (acknowledgement lastRate packet) codes.acknowledged) _ _ (λ y. by-detected (commandOf packet)) (λ n. still _)
 
-      in-command : (unlocked : Bool) (packet : List ℕ) → isUnlocked (after .phase) ≡ unlocked → P (heardInCommand after alert unlocked packet right)
+      in-command : (unlocked : Bool) (packet : List ℕ) → isUnlocked (after .phase) ≡ unlocked → P (heardInCommand lastRate after alert unlocked packet right)
       unfolding heardInCommand stirred
       in-command unlocked packet l =
-          by-pick P (eqb (acknowledgement packet) codes.acknowledged) _ _
+          by-pick P (eqb (acknowledgement lastRate packet) codes.acknowledged) _ _
           (λ y.
-          let known = asked-is-rate packet (eqb-true _ _ y) in
+          let known = rate-is-known lastRate packet (eqb-true _ _ y) in
           by-pick (λ (standing : Standing). P (obeyed standing alert unlocked right (commandOf packet))) (isKnown (commandOf packet)) _ _
           (λ k. by-command (movedTo after (after .phase) 0) (each 0 (omega arith)) unlocked (commandOf packet) l known)
           (λ n. by-command after (each (after .idle) (omega arith)) unlocked (commandOf packet) l known))
           (λ n. still _)
 
-      in-phase : (packet : List ℕ) (phase : Phase) → after .phase ≡ phase → P (heardIn after alert packet right phase)
+      in-phase : (packet : List ℕ) (phase : Phase) → after .phase ≡ phase → P (heardIn lastRate after alert packet right phase)
       in-phase packet phase.Detect e = in-detect packet
       in-phase packet (phase.Command unlocked sleep) e = in-command unlocked packet (ap isUnlocked e)
       in-phase packet phase.Standby e = still _
@@ -128,7 +121,7 @@ module _ (P : Judged → Type 0) (alert : ℕ) (right : Bool) where
       → P (says (movedTo (passTime standing wait .standing) (phase.Command false 0) 0) (Acknowledged codes.acknowledged))
       → ((idle : ℕ) → idle ≤ passTime standing wait .standing .idle
       → AtEach (movedTo (passTime standing wait .standing) (passTime standing wait .standing .phase) idle))
-      → P (judgedOf standing alert wait packet right)
+      → P (judgedOf lastRate standing alert wait packet right)
   unfolding judgedOf heardAfter
   judged-by-outcome standing wait packet connected each =
       let after = passTime standing wait .standing in

@@ -34,7 +34,7 @@ use Rattle.session_judge.proofs.OutcomeLaws.{judged-by-outcome}
 -- ---- the password bit
 
 -- the bit is looked at for Unlock alone
-module _ (alert : ℕ) (right : Bool) where
+module _ (lastRate alert : ℕ) (right : Bool) where
   obeyed-alike : (standing : Standing) (unlocked : Bool) (asked : Command) → (asked ≡ command.Unlock → right ≡ false)
       → obeyed standing alert unlocked right asked ≡ obeyed standing alert unlocked false asked
   obeyed-alike standing unlocked command.Connect h = refl
@@ -46,16 +46,16 @@ module _ (alert : ℕ) (right : Bool) where
   obeyed-alike standing unlocked command.WrongLength h = refl
   obeyed-alike standing unlocked command.Unknown h = refl
 
-  module _ (packet : List ℕ) (without : acknowledgement packet ≡ codes.acknowledged → commandOf packet ≡ command.Unlock → right ≡ false) where
+  module _ (packet : List ℕ) (without : acknowledgement lastRate packet ≡ codes.acknowledged → commandOf packet ≡ command.Unlock → right ≡ false) where
     heard-alike : (standing : Standing) (unlocked : Bool)
-        → heardInCommand standing alert unlocked packet right ≡ heardInCommand standing alert unlocked packet false
+        → heardInCommand lastRate standing alert unlocked packet right ≡ heardInCommand lastRate standing alert unlocked packet false
     unfolding heardInCommand
     heard-alike standing unlocked =
-        by-test (eqb (acknowledgement packet) codes.acknowledged)
+        by-test (eqb (acknowledgement lastRate packet) codes.acknowledged)
         (λ y. pick-true _ _ y ∙ obeyed-alike (stirred standing (commandOf packet)) unlocked (commandOf packet) (without (eqb-true _ _ y)) ∙ sym (pick-true _ _ y))
         (λ n. pick-false _ _ n ∙ sym (pick-false _ _ n))
 
-    by-phase : (standing : Standing) (phase : Phase) → heardIn standing alert packet right phase ≡ heardIn standing alert packet false phase
+    by-phase : (standing : Standing) (phase : Phase) → heardIn lastRate standing alert packet right phase ≡ heardIn lastRate standing alert packet false phase
     by-phase standing phase.Detect = refl
     by-phase standing (phase.Command unlocked sleep) = heard-alike standing unlocked
     by-phase standing phase.Standby = refl
@@ -63,7 +63,7 @@ module _ (alert : ℕ) (right : Bool) where
     by-phase standing phase.Disabled = refl
 
     -- a packet is judged by the password only where it is acknowledged and an Unlock
-    pub only-unlock-is-compared : (standing : Standing) (wait : ℕ) → judgedOf standing alert wait packet right ≡ judgedOf standing alert wait packet false
+    pub only-unlock-is-compared : (standing : Standing) (wait : ℕ) → judgedOf lastRate standing alert wait packet right ≡ judgedOf lastRate standing alert wait packet false
     unfolding judgedOf heardAfter
     only-unlock-is-compared standing wait =
         let after = passTime standing wait in
@@ -71,28 +71,28 @@ module _ (alert : ℕ) (right : Bool) where
         (by-phase (after .standing) (after .standing .phase))
 
 -- a packet with another command byte is no Unlock
-pub others-are-not-compared : (packet : List ℕ) → (codeIn packet ≡ codes.unlock → ⊥) → (standing : Standing) (alert wait : ℕ) (right : Bool)
-    → judgedOf standing alert wait packet right ≡ judgedOf standing alert wait packet false
-others-are-not-compared packet other standing alert wait right =
-    only-unlock-is-compared alert right packet (λ a e. absurd (other (unlock-stands e .0))) standing wait
+pub others-are-not-compared : (lastRate : ℕ) (packet : List ℕ) → (codeIn packet ≡ codes.unlock → ⊥) → (standing : Standing) (alert wait : ℕ) (right : Bool)
+    → judgedOf lastRate standing alert wait packet right ≡ judgedOf lastRate standing alert wait packet false
+others-are-not-compared lastRate packet other standing alert wait right =
+    only-unlock-is-compared lastRate alert right packet (λ a e. absurd (other (unlock-stands e .0))) standing wait
   where
     unlock-stands : commandOf packet ≡ command.Unlock → Stands packet command.Unlock
     unlock-stands e = rw e at (read-stands packet)
 
 -- ---- the third wrong password
 
-module _ (standing : Standing) (alert wait : ℕ) (packet : List ℕ) where
+module _ (lastRate : ℕ) (standing : Standing) (alert wait : ℕ) (packet : List ℕ) where
   abbrev isThird : ℕ → Bool
   isThird wrong = eqb wrong mostWrong
 
   -- where the alert is reset, no third one is counted without a strike: a count of three says that it struck
-  pub no-third-without-strike : isValid standing ≡ true → alert ≡ alertReset → (judgedOf standing alert wait packet false .effect ≡ Strike → ⊥)
-      → isThird (judgedOf standing alert wait packet false .standing .wrong) ≡ isThird (standing .wrong)
+  pub no-third-without-strike : isValid lastRate standing ≡ true → alert ≡ alertReset → (judgedOf lastRate standing alert wait packet false .effect ≡ Strike → ⊥)
+      → isThird (judgedOf lastRate standing alert wait packet false .standing .wrong) ≡ isThird (standing .wrong)
   no-third-without-strike valid reset =
-      let few = valid-by-parts standing valid .wrong in
+      let few = valid-by-parts lastRate standing valid .wrong in
       let same = time-keeps-wrong-count-and-rate standing wait .0 in
       let more = counted-up (passTime standing wait .standing .wrong) .0 (omega arith) in
-      judged-by-outcome (λ j. (j .effect ≡ Strike → ⊥) → isThird (j .standing .wrong) ≡ isThird (standing .wrong)) alert false standing wait packet
+      judged-by-outcome lastRate (λ j. (j .effect ≡ Strike → ⊥) → isThird (j .standing .wrong) ≡ isThird (standing .wrong)) alert false standing wait packet
       (λ h. ap isThird same)
       (λ idle less.
       record {

@@ -5,13 +5,11 @@ use Prim.Native.Nat.{ℕ, _≤_}
 use native.Mathlib.Omega.{arith}
 use borrow.Author.Tests.{ltb-true}
 use lib.Dec.{ltb}
-use Rattle.octets.specs.Choice.{pick}
 use Rattle.octets.proofs.Searching.{by-pick}
-use Rattle.line.specs.Acknowledgement.{isRate}
 use Rattle.session_state.specs.declared.Phase.{Phase}
 use Rattle.session_state.specs.declared.Standing.{Standing}
-use Rattle.session_state.specs.Phases.{mostWrong, isValidPhase, isValid}
-use Rattle.session_state.proofs.PhaseLaws.{Valid, parts-make-valid}
+use Rattle.session_state.specs.Phases.{rateIdAtStart, mostWrong, isValidPhase, isValid}
+use Rattle.session_state.proofs.PhaseLaws.{Valid, parts-make-valid, start-is-rate}
 use Rattle.session_judge.specs.Unlocking.{countedUp, afterWrong}
 
 -- one more is not fewer, and at most three
@@ -23,7 +21,7 @@ counted-up wrong =
     (λ n. (λ h. h, omega arith))
 
 -- a valid standing stays valid, in any phase that is
-pub wrong-is-valid : (standing : Standing) (phase : Phase) → Valid standing → isValidPhase phase ≡ true → isValid (afterWrong standing phase) ≡ true
-unfolding isRate pick
-wrong-is-valid standing phase v p =
-    parts-make-valid (afterWrong standing phase) (record { idle = v .idle; wrong = counted-up (standing .wrong) .1; rate = refl; phase = p })
+pub wrong-is-valid : (lastRate : ℕ) → rateIdAtStart ≤ lastRate → (standing : Standing) (phase : Phase) → Valid lastRate standing
+    → isValidPhase phase ≡ true → isValid lastRate (afterWrong standing phase) ≡ true
+wrong-is-valid lastRate two standing phase v p =
+    parts-make-valid lastRate (afterWrong standing phase) (record { idle = v .idle; wrong = counted-up (standing .wrong) .1; rate = start-is-rate lastRate two; phase = p })

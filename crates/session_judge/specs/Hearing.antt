@@ -36,36 +36,36 @@ detected standing command.WrongLength = silently standing
 detected standing command.Unknown = silently standing
 
 -- "In detect only an exact Connect is answered (0x00, command phase locked, idle 0); others get no reply."
-unfoldable pub heardInDetect : Standing → List ℕ → Judged
-heardInDetect standing packet =
-    pick (eqb (acknowledgement packet) codes.acknowledged) (detected standing (commandOf packet)) (silently standing)
+unfoldable pub heardInDetect : ℕ → Standing → List ℕ → Judged
+heardInDetect lastRate standing packet =
+    pick (eqb (acknowledgement lastRate packet) codes.acknowledged) (detected standing (commandOf packet)) (silently standing)
 
 -- "In command, apart from (c), idle becomes 0 exactly when the acknowledgement is 0x00 and the command byte is one of the twelve."
 unfoldable pub stirred : Standing → Command → Standing
 stirred standing command = pick (isKnown command) (movedTo standing (standing .phase) 0) standing
 
 -- "A packet not acknowledged by 0x00 has no further effect."
-unfoldable pub heardInCommand : Standing → ℕ → Bool → List ℕ → Bool → Judged
-heardInCommand standing alert unlocked packet right =
-    pick (eqb (acknowledgement packet) codes.acknowledged)
+unfoldable pub heardInCommand : ℕ → Standing → ℕ → Bool → List ℕ → Bool → Judged
+heardInCommand lastRate standing alert unlocked packet right =
+    pick (eqb (acknowledgement lastRate packet) codes.acknowledged)
     (obeyed (stirred standing (commandOf packet)) alert unlocked right (commandOf packet))
-    (says standing (Acknowledged (acknowledgement packet)))
+    (says standing (Acknowledged (acknowledgement lastRate packet)))
 
 -- a packet that is heard, by the phase; standby, ended and disabled hear none, by (a)
-abbrev pub heardIn : Standing → ℕ → List ℕ → Bool → Phase → Judged
-heardIn standing alert packet right phase.Detect = heardInDetect standing packet
-heardIn standing alert packet right (phase.Command unlocked sleep) = heardInCommand standing alert unlocked packet right
-heardIn standing alert packet right phase.Standby = silently standing
-heardIn standing alert packet right phase.Ended = silently standing
-heardIn standing alert packet right phase.Disabled = silently standing
+abbrev pub heardIn : ℕ → Standing → ℕ → List ℕ → Bool → Phase → Judged
+heardIn lastRate standing alert packet right phase.Detect = heardInDetect lastRate standing packet
+heardIn lastRate standing alert packet right (phase.Command unlocked sleep) = heardInCommand lastRate standing alert unlocked packet right
+heardIn lastRate standing alert packet right phase.Standby = silently standing
+heardIn lastRate standing alert packet right phase.Ended = silently standing
+heardIn lastRate standing alert packet right phase.Disabled = silently standing
 
 -- (a) to (c), then (d) "Empty packet: nothing more."
-unfoldable pub heardAfter : Passed → ℕ → List ℕ → Bool → Judged
-heardAfter passed alert packet right =
+unfoldable pub heardAfter : ℕ → Passed → ℕ → List ℕ → Bool → Judged
+heardAfter lastRate passed alert packet right =
     pick (passed .heard)
-    (pick (eqb (length packet) 0) (silently (passed .standing)) (heardIn (passed .standing) alert packet right (passed .standing .phase)))
+    (pick (eqb (length packet) 0) (silently (passed .standing)) (heardIn lastRate (passed .standing) alert packet right (passed .standing .phase)))
     (silently (passed .standing))
 
 -- what a session does with a packet after a wait; the last is whether the packet carries its password
-unfoldable pub judgedOf : Standing → ℕ → ℕ → List ℕ → Bool → Judged
-judgedOf standing alert wait packet right = heardAfter (passTime standing wait) alert packet right
+unfoldable pub judgedOf : ℕ → Standing → ℕ → ℕ → List ℕ → Bool → Judged
+judgedOf lastRate standing alert wait packet right = heardAfter lastRate (passTime standing wait) alert packet right

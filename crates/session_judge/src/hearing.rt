@@ -42,10 +42,10 @@ fn connected(standing: Standing) -> Standing
 const CONNECT_SIZE: usize = PACKET_FRAME + 1;
 
 // Only an exact Connect is answered, so nothing else is read of the packet.
-fn heard_in_detect(standing: Standing, packet: &[u8]) -> Judged
-    ensures { λ r. ⌜ r ≡ heardInDetect standing (now (packet .entry)) ⌝ }
+fn heard_in_detect(last_rate: u8, standing: Standing, packet: &[u8]) -> Judged
+    ensures { λ r. ⌜ r ≡ heardInDetect «last_rate» standing (now (packet .entry)) ⌝ }
 {
-    if line::acknowledge(packet) != codes::ACKNOWLEDGED {
+    if line::acknowledge(last_rate, packet) != codes::ACKNOWLEDGED {
         return silently(standing);
     }
     if octets::byte_at(packet, CORE_AT) != codes::CONNECT {
@@ -90,15 +90,16 @@ fn stirred(standing: Standing, command: Command) -> Standing
 }
 
 fn heard_in_command(
+    last_rate: u8,
     standing: Standing,
     alert: u8,
     unlocked: bool,
     packet: &[u8],
     right: bool,
 ) -> Judged
-    ensures { λ r. ⌜ r ≡ heardInCommand standing alert unlocked (now (packet .entry)) right ⌝ }
+    ensures { λ r. ⌜ r ≡ heardInCommand «last_rate» standing alert unlocked (now (packet .entry)) right ⌝ }
 {
-    let code = line::acknowledge(packet);
+    let code = line::acknowledge(last_rate, packet);
     if code != codes::ACKNOWLEDGED {
         return judgement::acknowledges(standing, code);
     }
@@ -107,9 +108,16 @@ fn heard_in_command(
 }
 
 // What a session does with a packet that came after a wait of so many milliseconds. `right` says whether the packet carries the
-// session's password, and is looked at only where the packet is an Unlock.
-pub fn judge(standing: Standing, alert: u8, wait: u32, packet: &[u8], right: bool) -> Judged
-    ensures { λ r. ⌜ r ≡ judgedOf standing alert wait (now (packet .entry)) right ⌝ }
+// session's password, and is looked at only where the packet is an Unlock. The part's last rate has the id `last_rate`.
+pub fn judge(
+    last_rate: u8,
+    standing: Standing,
+    alert: u8,
+    wait: u32,
+    packet: &[u8],
+    right: bool,
+) -> Judged
+    ensures { λ r. ⌜ r ≡ judgedOf «last_rate» standing alert wait (now (packet .entry)) right ⌝ }
 {
     let passed = session_state::pass_time(standing, wait);
     let after = passed.standing;
@@ -121,9 +129,9 @@ pub fn judge(standing: Standing, alert: u8, wait: u32, packet: &[u8], right: boo
     }
     let phase = after.phase;
     match phase {
-        Phase::Detect => heard_in_detect(after, packet),
+        Phase::Detect => heard_in_detect(last_rate, after, packet),
         Phase::Command { unlocked, sleep: _ } => {
-            heard_in_command(after, alert, unlocked, packet, right)
+            heard_in_command(last_rate, after, alert, unlocked, packet, right)
         }
         Phase::Standby | Phase::Ended | Phase::Disabled => silently(after),
     }

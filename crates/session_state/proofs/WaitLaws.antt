@@ -60,11 +60,11 @@ module _ (P : Passed → Type 0) (standing : Standing) (wait : ℕ) where
 -- ---- what every wait keeps
 
 -- a valid standing stays valid at another valid phase and a small idle time
-moved-is-valid : (standing : Standing) (phase : Phase) (idle : ℕ) → isValid standing ≡ true
-    → isValidPhase phase ≡ true → idle ≤ mostIdle → isValid (movedTo standing phase idle) ≡ true
-moved-is-valid standing phase idle h p i =
-    let v = valid-by-parts standing h in
-    parts-make-valid (movedTo standing phase idle) (record { idle = i; wrong = v .wrong; rate = v .rate; phase = p })
+moved-is-valid : (lastRate : ℕ) (standing : Standing) (phase : Phase) (idle : ℕ) → isValid lastRate standing ≡ true
+    → isValidPhase phase ≡ true → idle ≤ mostIdle → isValid lastRate (movedTo standing phase idle) ≡ true
+moved-is-valid lastRate standing phase idle h p i =
+    let v = valid-by-parts lastRate standing h in
+    parts-make-valid lastRate (movedTo standing phase idle) (record { idle = i; wrong = v .wrong; rate = v .rate; phase = p })
 
 -- without sleep the lock may be open or shut
 awake-is-valid : (unlocked : Bool) → isValidPhase (Command unlocked 0) ≡ true
@@ -79,19 +79,19 @@ unfolding pick
 asleep-is-valid true sleep wait p h = absurd (omega (arith, eqb-true sleep 0 p))
 asleep-is-valid false sleep wait p h = le-leb (sleep - wait) mostSleep (omega (arith, leb-true sleep mostSleep p))
 
-pub time-keeps-valid : (standing : Standing) (wait : ℕ) → isValid standing ≡ true → isValid (passTime standing wait .standing) ≡ true
-time-keeps-valid standing wait h =
-    let v = valid-by-parts standing h in
-    time-by-outcome (λ passed. isValid (passed .standing) ≡ true) standing wait
+pub time-keeps-valid : (lastRate : ℕ) (standing : Standing) (wait : ℕ) → isValid lastRate standing ≡ true → isValid lastRate (passTime standing wait .standing) ≡ true
+time-keeps-valid lastRate standing wait h =
+    let v = valid-by-parts lastRate standing h in
+    time-by-outcome (λ passed. isValid lastRate (passed .standing) ≡ true) standing wait
     (record {
       still = h;
-      standby = moved-is-valid standing Standby 0 h refl (omega arith);
-      detect = λ small. moved-is-valid standing Detect _ h refl small;
+      standby = moved-is-valid lastRate standing Standby 0 h refl (omega arith);
+      detect = λ small. moved-is-valid lastRate standing Detect _ h refl small;
       asleep = λ unlocked sleep e longer.
-          moved-is-valid standing (Command unlocked (sleep - wait)) _ h
+          moved-is-valid lastRate standing (Command unlocked (sleep - wait)) _ h
           (asleep-is-valid unlocked sleep wait (rw e at (v .phase)) longer) (v .idle);
-      locked = moved-is-valid standing (Command false 0) 0 h (awake-is-valid false) (omega arith);
-      awake = λ unlocked sleep e small. moved-is-valid standing (Command unlocked 0) _ h (awake-is-valid unlocked) small;
+      locked = moved-is-valid lastRate standing (Command false 0) 0 h (awake-is-valid false) (omega arith);
+      awake = λ unlocked sleep e small. moved-is-valid lastRate standing (Command unlocked 0) _ h (awake-is-valid unlocked) small;
     })
 
 pub time-keeps-wrong-count-and-rate : (standing : Standing) (wait : ℕ)
@@ -135,11 +135,11 @@ awake-is-heard standing unlocked rest =
     by-pick (λ (passed : Passed). passed .heard ≡ true) (isIdleTooLong standing rest) _ _ (λ y. refl) (λ n. refl)
 
 -- 01, Phases and waits: "With waits of 2,000 or more, no packet of the command phase is ever dropped."
-pub long-wait-is-heard : (standing : Standing) (wait : ℕ) (unlocked : Bool) (sleep : ℕ) → isValid standing ≡ true
+pub long-wait-is-heard : (lastRate : ℕ) (standing : Standing) (wait : ℕ) (unlocked : Bool) (sleep : ℕ) → isValid lastRate standing ≡ true
     → standing .phase ≡ Command unlocked sleep → 2000 ≤ wait → passTime standing wait .heard ≡ true
 unfolding passTime
-long-wait-is-heard standing wait unlocked sleep h e long =
-    let short = sleep-is-short unlocked sleep (rw e at (valid-by-parts standing h .phase)) in
+long-wait-is-heard lastRate standing wait unlocked sleep h e long =
+    let short = sleep-is-short unlocked sleep (rw e at (valid-by-parts lastRate standing h .phase)) in
     let over : sleep ≤ wait = omega arith in
     ap (λ (phase : Phase). passTimeIn standing wait phase .heard) e
     ∙ rw (pick-false _ _ (le-ltb wait sleep over)) (awake-is-heard standing unlocked (wait - sleep))

@@ -45,8 +45,8 @@ isValidPhase Disabled = true
 
 -- 10: "record not valid: idle above 9,999, sleep above 2,000, wrong count above 3, rate id outside 1..9, .. unlocked with sleep above 0".
 -- Its other clauses speak of settings and sizes, which are not here.
-unfoldable pub isValid : Standing → Bool
-isValid standing =
+unfoldable pub isValid : ℕ → Standing → Bool
+isValid lastRate standing =
     pick (leb (standing .idle) mostIdle)
-    (pick (leb (standing .wrong) mostWrong) (pick (isRate (standing .rate)) (isValidPhase (standing .phase)) false) false)
+    (pick (leb (standing .wrong) mostWrong) (pick (isRate lastRate (standing .rate)) (isValidPhase (standing .phase)) false) false)
     false

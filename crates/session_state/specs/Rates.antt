@@ -9,6 +9,6 @@ use Rattle.line.specs.Acknowledgement.{isRate}
 abbrev pub rates : List ℕ
 rates = 4800 ∷ 9600 ∷ 19200 ∷ 38400 ∷ 57600 ∷ 115200 ∷ 1000000 ∷ 2000000 ∷ 3000000 ∷ []
 
--- "Rates for 1..9": the rate of an id, the ids counted from 1; 0 where no rate has it
-unfoldable pub rateOf : ℕ → ℕ
-rateOf id = pick (isRate id) (getD rates (id - 1) 0) 0
+-- "Rates for 1..9": the rate of an id, the ids counted from 1; 0 where no rate of the part has it
+unfoldable pub rateOf : ℕ → ℕ → ℕ
+rateOf lastRate id = pick (isRate lastRate id) (getD rates (id - 1) 0) 0

@@ -26,9 +26,9 @@ fn is_valid_phase(phase: Phase) -> bool
     }
 }
 
-// Whether a record may say that a session stands so.
-pub fn is_valid(standing: Standing) -> bool
-    ensures { λ r. ⌜ r ≡ isValid standing ⌝ }
+// Whether a record may say that a session stands so, on a part whose last rate has the given id.
+pub fn is_valid(last_rate: u8, standing: Standing) -> bool
+    ensures { λ r. ⌜ r ≡ isValid «last_rate» standing ⌝ }
 {
     if MOST_IDLE < standing.idle {
         return false;
@@ -39,7 +39,7 @@ pub fn is_valid(standing: Standing) -> bool
     if standing.rate < codes::FIRST_RATE_ID {
         return false;
     }
-    if codes::LAST_RATE_ID < standing.rate {
+    if last_rate < standing.rate {
         return false;
     }
     let phase = standing.phase;

@@ -1,8 +1,6 @@
 // The rates of the line.
 ghost use mathlib.Core.Path.{_≡_};
 ghost use Rattle.session_state.specs.Rates.{rateOf};
-use line::codes;
-
 // Indexed by the id; no rate has the id 0.
 const RATES: [u32; 10] = [
     0,
@@ -17,11 +15,16 @@ const RATES: [u32; 10] = [
     3000000,
 ];
 
-// The rate that has this id, in bits a second, or 0 where none has.
-pub fn rate_of(id: u8) -> u32
-    ensures { λ r. ⌜ r ≡ rateOf id ⌝ }
+const LAST_IN_TABLE: u8 = 9;
+
+// The rate that has this id, in bits a second, or 0 where none has, on a part whose last rate has the given id.
+pub fn rate_of(last_rate: u8, id: u8) -> u32
+    ensures { λ r. ⌜ r ≡ rateOf «last_rate» id ⌝ }
 {
-    if codes::LAST_RATE_ID < id {
+    if last_rate < id {
+        return 0;
+    }
+    if LAST_IN_TABLE < id {
         return 0;
     }
     RATES[id as usize]

@@ -30,7 +30,7 @@ fn call(session: Session, main: &mut [u8], image: &mut [u8], row: &[u8]) -> Sess
     let mut packet = [0u8; codes::REPLY_LIMIT];
     let mut area = [0u8; codes::REPLY_LIMIT];
     let size = packets::put_packet(row, &mut packet);
-    let called = session::call(
+    let called = mspm0::call(
         session,
         main,
         image,
@@ -53,7 +53,7 @@ fn start(main: &mut [u8], image: &mut [u8], row: &[u8]) -> Session {
     octets::fill(main, 0x5A);
     boards::put_settings(row, image);
     show_board(row);
-    session::start(false, main, image).session
+    mspm0::start(false, main, image).session
 }
 
 fn step(session: Session, main: &mut [u8], image: &mut [u8], row: &[u8]) -> Session {
@@ -67,7 +67,7 @@ fn step(session: Session, main: &mut [u8], image: &mut [u8], row: &[u8]) -> Sess
 pub(crate) fn run(input: &[u8]) {
     let mut main = [0x5Au8; 4096];
     let mut image = [0xFFu8; settings::IMAGE_SIZE];
-    let mut session = session::start(false, &main, &image).session;
+    let mut session = mspm0::start(false, &main, &image).session;
     for i in 0..input.len() / ROW_SIZE {
         session = step(
             session,

@@ -1,6 +1,6 @@
 // The answers of the reader and the writer, told by the numbers that document 01 gives them.
 use crate::text;
-use c_boundary::REFUSAL_UNIT;
+use c_records::REFUSAL_UNIT;
 use settings::ReadAnswer;
 use settings::WriteAnswer;
 
@@ -18,14 +18,14 @@ fn say_refused(refusal: u64) {
 pub(crate) fn say_reading(answer: ReadAnswer) {
     match answer {
         ReadAnswer::Accepted => text::say(b" accepted"),
-        ReadAnswer::Refused(refusal) => say_refused(c_boundary::of_refusal(refusal)),
+        ReadAnswer::Refused(refusal) => say_refused(c_records::of_refusal(refusal)),
     }
 }
 
 pub(crate) fn say_writing(answer: WriteAnswer) {
     match answer {
         WriteAnswer::Written => text::say(b" accepted"),
-        WriteAnswer::SizeWrong => say_refused(c_boundary::SETTINGS_SIZE_WRONG),
-        WriteAnswer::ValueNotAllowed => say_refused(c_boundary::VALUE_NOT_ALLOWED),
+        WriteAnswer::SizeWrong => say_refused(c_records::SETTINGS_SIZE_WRONG),
+        WriteAnswer::ValueNotAllowed => say_refused(c_records::VALUE_NOT_ALLOWED),
     }
 }

@@ -23,7 +23,7 @@ fn settings_for(packet: &[u8]) -> Settings {
 
 fn started(packet: &[u8], main: &[u8], image: &mut [u8]) -> Session {
     settings::write(settings_for(packet), image);
-    session::start(false, main, image).session
+    mspm0::start(false, main, image).session
 }
 
 // The session after a packet that comes without a wait.
@@ -34,7 +34,7 @@ fn after(
     image: &mut [u8],
     area: &mut [u8],
 ) -> Session {
-    session::call(session, main, image, 0, packet, area).session
+    mspm0::call(session, main, image, 0, packet, area).session
 }
 
 fn unlocked(session: Session, main: &mut [u8], image: &mut [u8], area: &mut [u8]) -> Session {
@@ -84,6 +84,6 @@ pub(crate) fn put_reply(packet: &[u8], area: &mut [u8]) -> usize {
         &mut image,
         area,
     );
-    let answer = session::call(session, &mut main, &mut image, 0, packet, area).answer;
+    let answer = mspm0::call(session, &mut main, &mut image, 0, packet, area).answer;
     size_of(answer)
 }

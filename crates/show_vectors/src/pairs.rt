@@ -3,6 +3,7 @@ use crate::boards;
 use crate::frames;
 use crate::text;
 use line::codes;
+use parts::Mspm0;
 
 // No packet of the documents has more bytes.
 const MOST: usize = 64;
@@ -24,7 +25,7 @@ fn put_line(name: &[u8], line: &[u8], at: u8, whole: &mut [u8]) -> usize {
 
 fn say_acknowledgement(packet: &[u8]) {
     text::say(b", acknowledged");
-    text::say_bytes(&[line::acknowledge(packet)]);
+    text::say_bytes(&[line::acknowledge(Mspm0::LAST_RATE, packet)]);
 }
 
 fn say_check(frame: &[u8]) {

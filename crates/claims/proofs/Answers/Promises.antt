@@ -3,13 +3,15 @@
 use mathlib.Core.Path.{_≡_, refl, ap}
 use mathlib.Core.Bool.{Bool}
 use mathlib.Core.List.{List}
-use Prim.Native.Nat.{ℕ, _-_, min}
+use Prim.Native.Nat.{ℕ, _-_, _/_, min}
 use lib.ListN.{length, getD, replicate}
 use lib.Seq.{sets}
-use Rattle.octets.specs.Number.{part, numberAt, bytesOf}
+use Rattle.octets.specs.Number.{part, numberAt, bytesOf, isMultiple}
 use Rattle.octets.specs.Alike.{allAre, areSame}
 use Rattle.octets.specs.Hex.{hexOf}
 use Rattle.checksum.specs.Checksum.{checksumFrom, checksumOf}
+use Rattle.parts.specs.declared.Part.{Part}
+use Rattle.parts.specs.Parts.{mspm0}
 use Rattle.line.specs.Acknowledgement.{acknowledgement}
 use Rattle.line.specs.Commands.{commandOf}
 use Rattle.line.specs.declared.Reply.{Reply}
@@ -30,10 +32,9 @@ use Rattle.settings.specs.declared.Refusal.{Refusal}
 use Rattle.settings.specs.Answers.{numbered, refusalNumbered, readTold, writeLeft, writeNumber}
 use Rattle.settings.specs.Reader.{readOf}
 use Rattle.settings.specs.Writer.{writeOf}
-use Rattle.flash.specs.declared.Part.{Part}
 use Rattle.flash.specs.declared.Place.{Place}
 use Rattle.flash.specs.declared.Region.{Region}
-use Rattle.flash.specs.Regions.{isMainSize, mspm0Part, placeOf}
+use Rattle.flash.specs.Regions.{isMainSize, placeOf}
 use Rattle.flash.specs.Memory.{memory, bytesIn}
 use Rattle.flash.specs.Erasing.{eraseOf, eraseAllOf}
 use Rattle.flash.specs.Programming.{programOf}
@@ -52,10 +53,10 @@ use Rattle.session.specs.CallAnswers.{callNumbered, left, callLeft}
 use Rattle.session.specs.Starting.{startOf}
 use Rattle.session.specs.Calling.{callOf}
 use Rattle.session_in_place.specs.Starting.{startLeft, startInPlace}
-use Rattle.c_boundary.specs.OneNumber.{refusalOf}
-use Rattle.c_boundary.specs.Stored.{Stored, stored}
-use Rattle.c_boundary.specs.SettingsFromC.{readFromC, writeFromC}
-use Rattle.c_boundary.specs.Boundary as rig
+use Rattle.c_records.specs.OneNumber.{refusalOf}
+use Rattle.c_records.specs.Stored.{Stored, stored}
+use Rattle.c_records.specs.SettingsFromC.{readFromC, writeFromC}
+use Rattle.c_records.specs.Boundary as rig
 use Rattle.runner_text.specs.Form.{scriptTold, scriptOf, waitIn, packetIn}
 use Rattle.runner_text.specs.Writing.{lineOf, Written, written, writtenOf}
 use Rattle.runner_text.specs.EndLine.{endOf}
@@ -66,6 +67,9 @@ use Rattle.claims.proofs.Answers.NumberedAnswers.{readBy, read-back, wr
 
 pub least-is-one : (a b : ℕ) → OneAnswer (λ r. r ≡ min a b)
 least-is-one a b = as-said (min a b)
+
+pub is-multiple-is-one : (number unit : ℕ) → OneAnswer (λ r. r ≡ isMultiple number unit)
+is-multiple-is-one number unit = as-said (isMultiple number unit)
 
 pub room-is-one : (size at : ℕ) → OneAnswer (λ r. r ≡ size - at)
 room-is-one size at = as-said (size - at)
@@ -113,10 +117,15 @@ checksum-from-is-one earlier bytes = as-said (checksumFrom earlier bytes)
 pub put-hex-is-one : (area : List ℕ) (at : ℕ) (bytes : List ℕ) → OneAnswer (λ area'. area' ≡ sets area at (hexOf bytes))
 put-hex-is-one area at bytes = as-said (sets area at (hexOf bytes))
 
+-- ---- parts
+
+pub mspm0-part-is-one : OneAnswer (λ r. r ≡ mspm0)
+mspm0-part-is-one = as-said mspm0
+
 -- ---- line: packets
 
-pub acknowledge-is-one : (packet : List ℕ) → OneAnswer (λ r. r ≡ acknowledgement packet)
-acknowledge-is-one packet = as-said (acknowledgement packet)
+pub acknowledge-is-one : (lastRate : ℕ) (packet : List ℕ) → OneAnswer (λ r. r ≡ acknowledgement lastRate packet)
+acknowledge-is-one lastRate packet = as-said (acknowledgement lastRate packet)
 
 pub read-command-is-one : (packet : List ℕ) → OneAnswer (λ r. r ≡ commandOf packet)
 read-command-is-one packet = as-said (commandOf packet)
@@ -131,11 +140,11 @@ write-reply-is-one reply bytes area = sent-is-one (sentOf (replyBytes reply byte
 
 -- ---- session_state
 
-pub is-valid-is-one : (standing : Standing) → OneAnswer (λ r. r ≡ isValid standing)
-is-valid-is-one standing = as-said (isValid standing)
+pub is-valid-is-one : (lastRate : ℕ) (standing : Standing) → OneAnswer (λ r. r ≡ isValid lastRate standing)
+is-valid-is-one lastRate standing = as-said (isValid lastRate standing)
 
-pub rate-of-is-one : (id : ℕ) → OneAnswer (λ r. r ≡ rateOf id)
-rate-of-is-one id = as-said (rateOf id)
+pub rate-of-is-one : (lastRate id : ℕ) → OneAnswer (λ r. r ≡ rateOf lastRate id)
+rate-of-is-one lastRate id = as-said (rateOf lastRate id)
 
 -- ---- session_state: time
 
@@ -177,11 +186,8 @@ write-is-one settings image =
 
 -- ---- flash: regions
 
-pub mspm0-is-one : OneAnswer (λ r. r ≡ mspm0Part)
-mspm0-is-one = as-said mspm0Part
-
-pub is-main-size-is-one : (size : ℕ) → OneAnswer (λ r. r ≡ isMainSize size)
-is-main-size-is-one size = as-said (isMainSize size)
+pub is-main-size-is-one : (part : Part) (size : ℕ) → OneAnswer (λ r. r ≡ isMainSize part size)
+is-main-size-is-one part size = as-said (isMainSize part size)
 
 pub locate-is-one : (part : Part) (mainSize first count : ℕ) → OneAnswer (λ r. r ≡ placeOf part mainSize first count)
 locate-is-one part mainSize first count = as-said (placeOf part mainSize first count)
@@ -192,8 +198,9 @@ bytes-in-is-one region offset size main image = as-said (bytesIn offset size (me
 
 -- ---- flash: sectors
 
-pub erase-is-one : (memory : List ℕ) (sectorSize : ℕ) (protection : List ℕ) (first last : ℕ) → OneAnswer (λ memory'. memory' ≡ eraseOf sectorSize protection first last memory)
-erase-is-one memory sectorSize protection first last = as-said (eraseOf sectorSize protection first last memory)
+pub erase-between-is-one : (memory : List ℕ) (sectorSize : ℕ) (protection : List ℕ) (start end : ℕ)
+    → OneAnswer (λ memory'. memory' ≡ eraseOf sectorSize protection (start / sectorSize) (end / sectorSize) memory)
+erase-between-is-one memory sectorSize protection start end = as-said (eraseOf sectorSize protection (start / sectorSize) (end / sectorSize) memory)
 
 pub erase-all-is-one : (memory : List ℕ) (sectorSize : ℕ) (protection : List ℕ) → OneAnswer (λ memory'. memory' ≡ eraseAllOf sectorSize protection memory)
 erase-all-is-one memory sectorSize protection = as-said (eraseAllOf sectorSize protection memory)
@@ -205,28 +212,28 @@ program-is-one memory sectorSize protection at bytes = as-said (programOf sector
 
 -- ---- session: its start
 
-pub start-is-one : (fuse : Bool) (main image : List ℕ) → OneAnswer (λ r. startTold r ≡ startOf fuse main image)
-start-is-one fuse main image =
+pub start-is-one : (part : Part) (fuse : Bool) (main image : List ℕ) → OneAnswer (λ r. startTold r ≡ startOf part fuse main image)
+start-is-one part fuse main image =
     given-back startTold (λ told. record { answer = startedBy (told .answer); session = told .session })
     (λ r. ap (λ answer. record { answer = answer; session = r .session }) (started-back (r .answer)))
-    (startOf fuse main image)
+    (startOf part fuse main image)
 
 -- ---- session_judge
 
-pub judge-is-one : (standing : Standing) (alert wait : ℕ) (packet : List ℕ) (right : Bool) → OneAnswer (λ r. r ≡ judgedOf standing alert wait packet right)
-judge-is-one standing alert wait packet right = as-said (judgedOf standing alert wait packet right)
+pub judge-is-one : (lastRate : ℕ) (standing : Standing) (alert wait : ℕ) (packet : List ℕ) (right : Bool) → OneAnswer (λ r. r ≡ judgedOf lastRate standing alert wait packet right)
+judge-is-one lastRate standing alert wait packet right = as-said (judgedOf lastRate standing alert wait packet right)
 
 -- ---- session_act
 
-pub plan-is-one : (effect : Effect) (shown : Shown) (mainSize : ℕ) (right : Bool) (main image : List ℕ)
-    → OneAnswer (λ r. r ≡ planOf mainSize shown right (memory main image) effect)
-plan-is-one effect shown mainSize right main image = as-said (planOf mainSize shown right (memory main image) effect)
+pub plan-is-one : (part : Part) (effect : Effect) (shown : Shown) (mainSize : ℕ) (right : Bool) (main image : List ℕ)
+    → OneAnswer (λ r. r ≡ planOf part mainSize shown right (memory main image) effect)
+plan-is-one part effect shown mainSize right main image = as-said (planOf part mainSize shown right (memory main image) effect)
 
-pub carry-out-is-one : (order : Order) (shown : Shown) (protection packet main image : List ℕ)
-    → OneAnswer {A = List ℕ × List ℕ} (λ r. memory (r .0) (r .1) ≡ carriedOut shown protection packet (memory main image) order)
-carry-out-is-one order shown protection packet main image =
+pub carry-out-is-one : (part : Part) (order : Order) (shown : Shown) (protection packet main image : List ℕ)
+    → OneAnswer {A = List ℕ × List ℕ} (λ r. memory (r .0) (r .1) ≡ carriedOut part shown protection packet (memory main image) order)
+carry-out-is-one part order shown protection packet main image =
     given-back (λ r. memory (r .0) (r .1)) (λ after. (after .main, after .settings)) (λ r. refl)
-    (carriedOut shown protection packet (memory main image) order)
+    (carriedOut part shown protection packet (memory main image) order)
 
 -- ---- session_send
 
@@ -236,14 +243,24 @@ answer-is-one reply place count packet main image area = sent-is-one (answerOf r
 
 -- ---- session: its calls
 
-pub call-is-one : (session : Session) (main image : List ℕ) (wait : ℕ) (packet area : List ℕ)
+pub call-is-one : (part : Part) (session : Session) (main image : List ℕ) (wait : ℕ) (packet area : List ℕ)
     → OneAnswer {A = Called × List ℕ × List ℕ × List ℕ}
-    (λ r. callLeft (r .0) (memory (r .1) (r .2)) (r .3) ≡ callOf session (memory main image) wait packet area)
-call-is-one session main image wait packet area =
+    (λ r. callLeft (r .0) (memory (r .1) (r .2)) (r .3) ≡ callOf part session (memory main image) wait packet area)
+call-is-one part session main image wait packet area =
     given-back (λ r. callLeft (r .0) (memory (r .1) (r .2)) (r .3))
     (λ l. (record { answer = calledBy (l .answer); session = l .session }, l .memory .main, l .memory .settings, l .area))
     (λ r. ap (λ answer. (record { answer = answer; session = r .0 .session }, r .1, r .2, r .3)) (called-back (r .0 .answer)))
-    (callOf session (memory main image) wait packet area)
+    (callOf part session (memory main image) wait packet area)
+
+-- ---- mspm0
+
+pub mspm0-start-is-one : (fuse : Bool) (main image : List ℕ) → OneAnswer (λ r. startTold r ≡ startOf mspm0 fuse main image)
+mspm0-start-is-one = start-is-one mspm0
+
+pub mspm0-call-is-one : (session : Session) (main image : List ℕ) (wait : ℕ) (packet area : List ℕ)
+    → OneAnswer {A = Called × List ℕ × List ℕ × List ℕ}
+    (λ r. callLeft (r .0) (memory (r .1) (r .2)) (r .3) ≡ callOf mspm0 session (memory main image) wait packet area)
+mspm0-call-is-one = call-is-one mspm0
 
 -- ---- session_in_place
 
@@ -256,44 +273,65 @@ in-place-start-is-one session fuse main image =
 
 pub in-place-call-is-one : (session : Session) (main image : List ℕ) (wait : ℕ) (packet area : List ℕ)
     → OneAnswer {A = CallAnswer × Session × List ℕ × List ℕ × List ℕ}
-    (λ r. left (callNumbered (r .0)) (r .1) (memory (r .2) (r .3)) (r .4) ≡ callOf session (memory main image) wait packet area)
+    (λ r. left (callNumbered (r .0)) (r .1) (memory (r .2) (r .3)) (r .4) ≡ callOf mspm0 session (memory main image) wait packet area)
 in-place-call-is-one session main image wait packet area =
     given-back (λ r. left (callNumbered (r .0)) (r .1) (memory (r .2) (r .3)) (r .4))
     (λ l. (calledBy (l .answer), l .session, l .memory .main, l .memory .settings, l .area))
     (λ r. ap (λ answer. (answer, r .1, r .2, r .3, r .4)) (called-back (r .0)))
-    (callOf session (memory main image) wait packet area)
+    (callOf mspm0 session (memory main image) wait packet area)
 
--- ---- c_boundary: numbers
+-- ---- c_records: numbers
 
 pub of-refusal-is-one : (refusal : Refusal) → OneAnswer (λ r. r ≡ refusalOf (refusalNumbered refusal))
 of-refusal-is-one refusal = as-said (refusalOf (refusalNumbered refusal))
 
--- ---- c_boundary: settings and rates
+-- ---- c_records: settings and rates
 
-pub bhorelmu-rate-is-one : (id : ℕ) → OneAnswer (λ r. r ≡ rateOf id)
-bhorelmu-rate-is-one = rate-of-is-one
+pub rate-by-id-is-one : (part : Part) (id : ℕ) → OneAnswer (λ r. r ≡ rig.rateFromC part id)
+rate-by-id-is-one part id = as-said (rig.rateFromC part id)
 
 stored-is-one : (value : Stored) → OneAnswer {A = ℕ × List ℕ} (λ r. stored (r .0) (r .1) ≡ value)
 stored-is-one = given-back (λ r. stored (r .0) (r .1)) (λ s. (s .answer, s .area)) (λ r. refl)
 
+pub read-image-is-one : (image fields : List ℕ) → OneAnswer {A = ℕ × List ℕ} (λ r. stored (r .0) (r .1) ≡ readFromC image fields)
+read-image-is-one image fields = stored-is-one (readFromC image fields)
+
+pub write-image-is-one : (fields image : List ℕ) → OneAnswer {A = ℕ × List ℕ} (λ r. stored (r .0) (r .1) ≡ writeFromC fields image)
+write-image-is-one fields image = stored-is-one (writeFromC fields image)
+
+-- ---- c_records: sessions
+
+pub start-record-is-one : (part : Part) (fuse : ℕ) (main settings area : List ℕ)
+    → OneAnswer {A = ℕ × List ℕ} (λ r. stored (r .0) (r .1) ≡ rig.startFromC part fuse main settings area)
+start-record-is-one part fuse main settings area = stored-is-one (rig.startFromC part fuse main settings area)
+
+pub call-record-is-one : (part : Part) (area main settings : List ℕ) (wait : ℕ) (packet reply : List ℕ)
+    → OneAnswer {A = ℕ × List ℕ × List ℕ × List ℕ × List ℕ}
+    (λ r. rig.called (r .0) (r .1) (memory (r .2) (r .3)) (r .4) ≡ rig.callFromC part area (memory main settings) wait packet reply)
+call-record-is-one part area main settings wait packet reply =
+    given-back (λ r. rig.called (r .0) (r .1) (memory (r .2) (r .3)) (r .4))
+    (λ l. (l .answer, l .area, l .memory .main, l .memory .settings, l .reply)) (λ r. refl)
+    (rig.callFromC part area (memory main settings) wait packet reply)
+
+-- ---- c_mspm0
+
+pub bhorelmu-rate-is-one : (id : ℕ) → OneAnswer (λ r. r ≡ rig.rateFromC mspm0 id)
+bhorelmu-rate-is-one = rate-by-id-is-one mspm0
+
 pub bhorelmu-settings-read-is-one : (image fields : List ℕ) → OneAnswer {A = ℕ × List ℕ} (λ r. stored (r .0) (r .1) ≡ readFromC image fields)
-bhorelmu-settings-read-is-one image fields = stored-is-one (readFromC image fields)
+bhorelmu-settings-read-is-one = read-image-is-one
 
 pub bhorelmu-settings-write-is-one : (fields image : List ℕ) → OneAnswer {A = ℕ × List ℕ} (λ r. stored (r .0) (r .1) ≡ writeFromC fields image)
-bhorelmu-settings-write-is-one fields image = stored-is-one (writeFromC fields image)
+bhorelmu-settings-write-is-one = write-image-is-one
 
--- ---- c_boundary: sessions
-
-pub bhorelmu-start-is-one : (fuse : ℕ) (main settings area : List ℕ) → OneAnswer {A = ℕ × List ℕ} (λ r. stored (r .0) (r .1) ≡ rig.startFromC fuse main settings area)
-bhorelmu-start-is-one fuse main settings area = stored-is-one (rig.startFromC fuse main settings area)
+pub bhorelmu-start-is-one : (fuse : ℕ) (main settings area : List ℕ)
+    → OneAnswer {A = ℕ × List ℕ} (λ r. stored (r .0) (r .1) ≡ rig.startFromC mspm0 fuse main settings area)
+bhorelmu-start-is-one = start-record-is-one mspm0
 
 pub bhorelmu-call-is-one : (area main settings : List ℕ) (wait : ℕ) (packet reply : List ℕ)
     → OneAnswer {A = ℕ × List ℕ × List ℕ × List ℕ × List ℕ}
-    (λ r. rig.called (r .0) (r .1) (memory (r .2) (r .3)) (r .4) ≡ rig.callFromC area (memory main settings) wait packet reply)
-bhorelmu-call-is-one area main settings wait packet reply =
-    given-back (λ r. rig.called (r .0) (r .1) (memory (r .2) (r .3)) (r .4))
-    (λ l. (l .answer, l .area, l .memory .main, l .memory .settings, l .reply)) (λ r. refl)
-    (rig.callFromC area (memory main settings) wait packet reply)
+    (λ r. rig.called (r .0) (r .1) (memory (r .2) (r .3)) (r .4) ≡ rig.callFromC mspm0 area (memory main settings) wait packet reply)
+bhorelmu-call-is-one = call-record-is-one mspm0
 
 -- ---- runner_text: scripts
 

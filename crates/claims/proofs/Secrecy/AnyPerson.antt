@@ -4,8 +4,11 @@ use mathlib.Core.Path.{_≡_, refl, sym, ap, subst, _∙_}
 use mathlib.Core.Bool.{false}
 use mathlib.Core.List.{List, [], _∷_}
 use Prim.Native.Nat.{ℕ, zero, suc}
+use Rattle.parts.specs.declared.Part.{Part}
+use Rattle.parts.specs.Parts.{mspm0, Sound}
+use Rattle.parts.proofs.PartLaws.{mspm0-is-sound}
 use Rattle.session_state.specs.Phases.{atStart}
-use Rattle.c_boundary.specs.Records.{recordOf}
+use Rattle.c_records.specs.Records.{recordOf}
 use Rattle.session.specs.Starting.{startOf}
 use Rattle.claims.specs.TwoBoards.{Images, Running, started, AlikeBoards, Sending, WithoutPassword, called, next, Flash, AlikeThroughout}
 use Rattle.claims.specs.TwoBoardsFromC.{RunningFromC, startedFromC, Lent, calledFromC, nextFromC, lockIn, wrongIn, AlikeCallsFromC, AlikeSessionsFromC}
@@ -14,116 +17,129 @@ use Rattle.claims.proofs.Secrecy.LockedBoard.{later, flash-is-as-claime
 use Rattle.claims.proofs.Secrecy.ToldApart.{two-boards-are-alike}
 use Rattle.claims.proofs.Secrecy.ToldApartFromC.{fromC, lock-is-0, started-from-C, two-boards-are-alike-from-C}
 
--- ---- boards that are alike and stay so by every call without a password, however they are called
+module _ (part : Part) (sound : Sound part) where
+  -- ---- boards that are alike and stay so by every call without a password, however they are called
 
-module _ (one other : Images) {Board Seen : Type 0} (callOne callOther : Board → Sending → Step Board Seen) (Pair : Board → Board → Type 0)
-    (stays : (oneNow otherNow : Board) → Pair oneNow otherNow → (sending : Sending) → WithoutPassword one other sending
-    → Pair (callOne oneNow sending .board) (callOther otherNow sending .board) × (callOne oneNow sending .seen ≡ callOther otherNow sending .seen))
-  where
-    any-visit : (person : Person Seen) (oneNow otherNow : Board) → Pair oneNow otherNow → (calls : ℕ)
-        → AllWithout one other (visited callOne person oneNow calls .sent)
-        → AlikeVisits Pair (visited callOne person oneNow calls) (visited callOther person otherNow calls)
-    any-visit person oneNow otherNow pair zero without = record { sent = refl; seen = refl; boards = pair }
-    any-visit person oneNow otherNow pair (suc calls) without =
-        let before : Visit Board Seen = visited callOne person oneNow calls in
-        let so = any-visit person oneNow otherNow pair calls (without .1) in
-        let after = stays _ _ (so .boards) (person (before .seen)) (without .0) in
-        rw (← so .seen)
-        (record {
-          sent = ap (λ (sent : List Sending). person (before .seen) ∷ sent) (so .sent);
-          seen = ap (λ (last : Seen). last ∷ before .seen) (after .1);
-          boards = after .0;
-        })
-
--- ---- by value
-
-module _ (one other : Images) where
-  -- two boards that are alike now, and after any list of calls
-  record Pair (oneNow otherNow : Running) : Type 0 where
-    here : StandAlike one other oneNow otherNow
-    later : (sendings : List Sending) → AlikeThroughout one other oneNow otherNow sendings
-
-  -- a call without a password leaves such a pair
-  pair-stays : (oneNow otherNow : Running) → Pair oneNow otherNow → (sending : Sending) → WithoutPassword one other sending
-      → Pair (next (called oneNow sending (sending .oneArea))) (next (called otherNow sending (sending .otherArea)))
-      × (stepOf (called oneNow sending (sending .oneArea)) .seen ≡ stepOf (called otherNow sending (sending .otherArea)) .seen)
-  pair-stays oneNow otherNow pair sending without =
-      let alike = pair .later (sending ∷ []) without .0 in (
-        record {
-          here = record { standing = alike .standing; locked = alike .locked; oneFlash = alike .oneFlash; otherFlash = alike .otherFlash };
-          later = λ sendings. pair .later (sending ∷ sendings) without .1;
-        },
-        rw (alike .replies, alike .answers, alike .standing),
-      )
-
--- whoever stands at the port: where no packet of the visit to the one board carries a password of the two, the visit to the other is the same,
--- after any number of calls
-pub no-person-tells-boards-apart : (one other : Images) → AlikeBoards one other → (person : Person Seen) (calls : ℕ)
-    → AllWithout one other (visitOne person one calls .sent)
-    → AlikeVisits (StandAlike one other) (visitOne person one calls) (visitOther person other calls)
-no-person-tells-boards-apart one other alike person calls without =
-    let visits = any-visit one other _ _ (Pair one other) (pair-stays one other) person (started one) (started other) at-start calls without in
-    record { sent = visits .sent; seen = visits .seen; boards = visits .boards .here }
-  where
-    at-start : Pair one other (started one) (started other)
-    at-start = record {
-      here =
-          rw (started-is-later one (alike .oneStarts), started-is-later other (alike .otherStarts))
+  module _ (one other : Images) {Board Seen : Type 0} (callOne callOther : Board → Sending → Step Board Seen) (Pair : Board → Board → Type 0)
+      (stays : (oneNow otherNow : Board) → Pair oneNow otherNow → (sending : Sending) → WithoutPassword part one other sending
+      → Pair (callOne oneNow sending .board) (callOther otherNow sending .board) × (callOne oneNow sending .seen ≡ callOther otherNow sending .seen))
+    where
+      any-visit : (person : Person Seen) (oneNow otherNow : Board) → Pair oneNow otherNow → (calls : ℕ)
+          → AllWithout part one other (visited callOne person oneNow calls .sent)
+          → AlikeVisits Pair (visited callOne person oneNow calls) (visited callOther person otherNow calls)
+      any-visit person oneNow otherNow pair zero without = record { sent = refl; seen = refl; boards = pair }
+      any-visit person oneNow otherNow pair (suc calls) without =
+          let before : Visit Board Seen = visited callOne person oneNow calls in
+          let so = any-visit person oneNow otherNow pair calls (without .1) in
+          let after = stays _ _ (so .boards) (person (before .seen)) (without .0) in
+          rw (← so .seen)
           (record {
-            standing = refl;
-            locked = started-is-locked one (alike .oneStarts) .shut;
-            oneFlash = flash-is-as-claimed one atStart;
-            otherFlash = flash-is-as-claimed other atStart;
-          });
-      later = two-boards-are-alike one other alike;
-    }
+            sent = ap (λ (sent : List Sending). person (before .seen) ∷ sent) (so .sent);
+            seen = ap (λ (last : Seen). last ∷ before .seen) (after .1);
+            boards = after .0;
+          })
 
--- ---- from C
+  -- ---- by value
 
-module _ (one other : Images) where
-  record PairFromC (oneNow otherNow : RunningFromC) : Type 0 where
-    here : StandAlikeFromC one other oneNow otherNow
-    later : (sendings : List Sending) → AlikeCallsFromC one other oneNow otherNow sendings
+  module _ (one other : Images) where
+    -- two boards that are alike now, and after any list of calls
+    record Pair (oneNow otherNow : Running) : Type 0 where
+      here : StandAlike part one other oneNow otherNow
+      later : (sendings : List Sending) → AlikeThroughout part one other oneNow otherNow sendings
 
-  pair-stays-from-C : (oneNow otherNow : RunningFromC) → PairFromC oneNow otherNow → (sending : Sending) → WithoutPassword one other sending
-      → PairFromC (nextFromC (calledFromC oneNow sending (sending .oneArea))) (nextFromC (calledFromC otherNow sending (sending .otherArea)))
-      × (stepFromC (calledFromC oneNow sending (sending .oneArea)) .seen ≡ stepFromC (calledFromC otherNow sending (sending .otherArea)) .seen)
-  pair-stays-from-C oneNow otherNow pair sending without =
-      let alike = pair .later (sending ∷ []) without .0 in (
-        record {
-          here = record { stands = alike .stands; locked = alike .locked; oneFlash = alike .oneFlash; otherFlash = alike .otherFlash };
-          later = λ sendings. pair .later (sending ∷ sendings) without .1;
-        },
-        rw (alike .replies, alike .answers, alike .stands),
-      )
+    -- a call without a password leaves such a pair
+    pair-stays : (oneNow otherNow : Running) → Pair oneNow otherNow → (sending : Sending) → WithoutPassword part one other sending
+        → Pair (next (called part oneNow sending (sending .oneArea))) (next (called part otherNow sending (sending .otherArea)))
+        × (stepOf (called part oneNow sending (sending .oneArea)) .seen ≡ stepOf (called part otherNow sending (sending .otherArea)) .seen)
+    pair-stays oneNow otherNow pair sending without =
+        let alike = pair .later (sending ∷ []) without .0 in (
+          record {
+            here = record { standing = alike .standing; locked = alike .locked; oneFlash = alike .oneFlash; otherFlash = alike .otherFlash };
+            later = λ sendings. pair .later (sending ∷ sendings) without .1;
+          },
+          rw (alike .replies, alike .answers, alike .standing),
+        )
 
--- a board that starts: its record says that it is locked, and its flash is as claimed
-module _ (images : Images) (area : List ℕ) (lent : Lent images area) (starts : startOf false (images .main) (images .settings) .answer .number ≡ 0) where
-  starts-as-claimed : (lockIn (startedFromC images area .area) ≡ 0) × Flash images (wrongIn (startedFromC images area .area)) (startedFromC images area .memory)
-  unfolding recordOf
-  starts-as-claimed =
-      subst (λ (board : RunningFromC). (lockIn (board .area) ≡ 0) × Flash images (wrongIn (board .area)) (board .memory))
-      (sym (started-from-C images area lent starts ∙ ap fromC (started-is-later images starts)))
-      (lock-is-0 (later images atStart .session) (started-is-locked images starts .shut), flash-is-as-claimed images atStart)
+  -- whoever stands at the port: where no packet of the visit to the one board carries a password of the two, the visit to the other is the same,
+  -- after any number of calls
+  pub no-person-tells-boards-apart : (one other : Images) → AlikeBoards part one other → (person : Person Seen) (calls : ℕ)
+      → AllWithout part one other (visitOne part person one calls .sent)
+      → AlikeVisits (StandAlike part one other) (visitOne part person one calls) (visitOther part person other calls)
+  no-person-tells-boards-apart one other alike person calls without =
+      let visits = any-visit one other _ _ (Pair one other) (pair-stays one other) person (started part one) (started part other) at-start calls without in
+      record { sent = visits .sent; seen = visits .seen; boards = visits .boards .here }
+    where
+      at-start : Pair one other (started part one) (started part other)
+      at-start = record {
+        here =
+            rw (started-is-later part one (alike .oneStarts), started-is-later part other (alike .otherStarts))
+            (record {
+              standing = refl;
+              locked = started-is-locked part one (alike .oneStarts) sound .shut;
+              oneFlash = flash-is-as-claimed part one atStart;
+              otherFlash = flash-is-as-claimed part other atStart;
+            });
+        later = two-boards-are-alike part sound one other alike;
+      }
 
-pub no-person-tells-boards-apart-from-C : (one other : Images) (oneArea otherArea : List ℕ) → AlikeBoards one other → Lent one oneArea → Lent other otherArea
-    → (person : Person SeenFromC) (calls : ℕ) → AllWithout one other (visitOneFromC person one oneArea calls .sent)
-    → AlikeVisits (StandAlikeFromC one other) (visitOneFromC person one oneArea calls) (visitOtherFromC person other otherArea calls)
-no-person-tells-boards-apart-from-C one other oneArea otherArea alike oneLent otherLent person calls without =
-    let visits =
-    any-visit one other _ _ (PairFromC one other) (pair-stays-from-C one other) person (startedFromC one oneArea) (startedFromC other otherArea) at-start calls without in
-    record { sent = visits .sent; seen = visits .seen; boards = visits .boards .here }
-  where
-    session : (sendings : List Sending) → AlikeSessionsFromC one other oneArea otherArea sendings
-    session = two-boards-are-alike-from-C one other oneArea otherArea alike oneLent otherLent
+  -- ---- from C
 
-    at-start : PairFromC one other (startedFromC one oneArea) (startedFromC other otherArea)
-    at-start = record {
-      here = record {
-        stands = session [] .stands;
-        locked = starts-as-claimed one oneArea oneLent (alike .oneStarts) .0;
-        oneFlash = starts-as-claimed one oneArea oneLent (alike .oneStarts) .1;
-        otherFlash = starts-as-claimed other otherArea otherLent (alike .otherStarts) .1;
-      };
-      later = λ sendings. session sendings .calls;
-    }
+  module _ (one other : Images) where
+    record PairFromC (oneNow otherNow : RunningFromC) : Type 0 where
+      here : StandAlikeFromC part one other oneNow otherNow
+      later : (sendings : List Sending) → AlikeCallsFromC part one other oneNow otherNow sendings
+
+    pair-stays-from-C : (oneNow otherNow : RunningFromC) → PairFromC oneNow otherNow → (sending : Sending) → WithoutPassword part one other sending
+        → PairFromC (nextFromC (calledFromC part oneNow sending (sending .oneArea))) (nextFromC (calledFromC part otherNow sending (sending .otherArea)))
+        × (stepFromC (calledFromC part oneNow sending (sending .oneArea)) .seen ≡ stepFromC (calledFromC part otherNow sending (sending .otherArea)) .seen)
+    pair-stays-from-C oneNow otherNow pair sending without =
+        let alike = pair .later (sending ∷ []) without .0 in (
+          record {
+            here = record { stands = alike .stands; locked = alike .locked; oneFlash = alike .oneFlash; otherFlash = alike .otherFlash };
+            later = λ sendings. pair .later (sending ∷ sendings) without .1;
+          },
+          rw (alike .replies, alike .answers, alike .stands),
+        )
+
+  -- a board that starts: its record says that it is locked, and its flash is as claimed
+  module _ (images : Images) (area : List ℕ) (lent : Lent images area) (starts : startOf part false (images .main) (images .settings) .answer .number ≡ 0) where
+    starts-as-claimed : (lockIn (startedFromC part images area .area) ≡ 0) × Flash part images (wrongIn (startedFromC part images area .area)) (startedFromC part images area .memory)
+    unfolding recordOf
+    starts-as-claimed =
+        subst (λ (board : RunningFromC). (lockIn (board .area) ≡ 0) × Flash part images (wrongIn (board .area)) (board .memory))
+        (sym (started-from-C part sound images area lent starts ∙ ap fromC (started-is-later part images starts)))
+        (lock-is-0 (later part images atStart .session) (started-is-locked part images starts sound .shut), flash-is-as-claimed part images atStart)
+
+  pub no-person-tells-boards-apart-from-C : (one other : Images) (oneArea otherArea : List ℕ) → AlikeBoards part one other → Lent one oneArea → Lent other otherArea
+      → (person : Person SeenFromC) (calls : ℕ) → AllWithout part one other (visitOneFromC part person one oneArea calls .sent)
+      → AlikeVisits (StandAlikeFromC part one other) (visitOneFromC part person one oneArea calls) (visitOtherFromC part person other otherArea calls)
+  no-person-tells-boards-apart-from-C one other oneArea otherArea alike oneLent otherLent person calls without =
+      let visits =
+      any-visit one other _ _ (PairFromC one other) (pair-stays-from-C one other) person (startedFromC part one oneArea) (startedFromC part other otherArea) at-start calls without in
+      record { sent = visits .sent; seen = visits .seen; boards = visits .boards .here }
+    where
+      session : (sendings : List Sending) → AlikeSessionsFromC part one other oneArea otherArea sendings
+      session = two-boards-are-alike-from-C part sound one other oneArea otherArea alike oneLent otherLent
+
+      at-start : PairFromC one other (startedFromC part one oneArea) (startedFromC part other otherArea)
+      at-start = record {
+        here = record {
+          stands = session [] .stands;
+          locked = starts-as-claimed one oneArea oneLent (alike .oneStarts) .0;
+          oneFlash = starts-as-claimed one oneArea oneLent (alike .oneStarts) .1;
+          otherFlash = starts-as-claimed other otherArea otherLent (alike .otherStarts) .1;
+        };
+        later = λ sendings. session sendings .calls;
+      }
+
+-- ---- two boards of the MSPM0
+
+pub no-person-tells-mspm0-boards-apart : (one other : Images) → AlikeBoards mspm0 one other → (person : Person Seen) (calls : ℕ)
+    → AllWithout mspm0 one other (visitOne mspm0 person one calls .sent)
+    → AlikeVisits (StandAlike mspm0 one other) (visitOne mspm0 person one calls) (visitOther mspm0 person other calls)
+no-person-tells-mspm0-boards-apart = no-person-tells-boards-apart mspm0 mspm0-is-sound
+
+pub no-person-tells-mspm0-boards-apart-from-C : (one other : Images) (oneArea otherArea : List ℕ) → AlikeBoards mspm0 one other → Lent one oneArea → Lent other otherArea
+    → (person : Person SeenFromC) (calls : ℕ) → AllWithout mspm0 one other (visitOneFromC mspm0 person one oneArea calls .sent)
+    → AlikeVisits (StandAlikeFromC mspm0 one other) (visitOneFromC mspm0 person one oneArea calls) (visitOtherFromC mspm0 person other otherArea calls)
+no-person-tells-mspm0-boards-apart-from-C = no-person-tells-boards-apart-from-C mspm0 mspm0-is-sound

@@ -7,13 +7,15 @@ use lib.Dec.{eqb}
 use lib.ListN.{length}
 use Rattle.octets.specs.Choice.{pick}
 use Rattle.octets.proofs.Searching.{pick-true, pick-false, by-test}
+use Rattle.parts.specs.declared.Part.{Part}
+use Rattle.parts.specs.Parts.{Sound}
 use Rattle.session_state.specs.declared.Standing.{Standing}
 use Rattle.session_state.specs.Phases.{atStart, isUnlocked}
 use Rattle.flash.specs.Memory.{Memory, memory}
 use Rattle.flash.specs.Erasing.{eraseAllOf}
 use Rattle.flash.proofs.ErasingLaws.{erase-all-keeps-length, erase-all-at, erase-all-twice}
 use Rattle.session_judge.specs.Unlocking.{alertReset}
-use Rattle.session_act.specs.Board.{Board, board, sectorSize, settingsProtection}
+use Rattle.session_act.specs.Board.{Board, board, settingsProtection}
 use Rattle.session_act.specs.declared.Order.the-variants.{EraseBoth}
 use Rattle.session_act.specs.Orders.{carriedOut}
 use Rattle.session_act.specs.Info.{versionAt}
@@ -49,74 +51,76 @@ module _ (size : ℕ) (protection image : List ℕ) where
   struck-again false = refl
 
 -- images of one length that publish the same version do so before and after
-pub versions-stay-alike : (pointer : ℕ) (protection one other : List ℕ) → length one ≡ length other → versionAt pointer one ≡ versionAt pointer other
-    → (struck : Bool) → versionAt pointer (imageThen sectorSize struck protection one) ≡ versionAt pointer (imageThen sectorSize struck protection other)
+pub versions-stay-alike : (part : Part) → Sound part → (pointer : ℕ) (protection one other : List ℕ) → length one ≡ length other → versionAt pointer one ≡ versionAt pointer other
+    → (struck : Bool) → versionAt pointer (imageThen (part .«sector_size») struck protection one) ≡ versionAt pointer (imageThen (part .«sector_size») struck protection other)
 unfolding imageThen pick
-versions-stay-alike pointer protection one other size same true = erased-versions-alike pointer protection one other size same
-versions-stay-alike pointer protection one other size same false = same
+versions-stay-alike part sound pointer protection one other size same true = erased-versions-alike part sound pointer protection one other size same
+versions-stay-alike part sound pointer protection one other size same false = same
 
 -- ---- a board, by its start and by how it stands
 
 abbrev pub alertOf : Images → ℕ
 alertOf images = settingsOf images .shown .alert
 
--- what its settings let be done
-abbrev pub lets : Images → Board
-lets images = board (length (images .main)) (settingsOf images .shown) (settingsOf images .protection)
-
--- its images, its session, and all of it
-abbrev pub memoryThen : Images → Bool → Memory
-memoryThen images struck =
-    memory (imageThen sectorSize struck (settingsOf images .protection) (images .main))
-    (imageThen sectorSize struck (settingsProtection (settingsOf images .shown)) (images .settings))
-
+-- its session
 abbrev pub sessionThen : Images → Standing → Session
 sessionThen images standing = record { standing = standing; «main_size» = length (images .main); settings = settingsOf images }
 
-abbrev pub later : Images → Standing → Running
-later images standing =
-    record { session = sessionThen images standing; memory = memoryThen images (isStruck (alertOf images) (standing .wrong)) }
+module _ (part : Part) where
+  -- what its settings let be done
+  abbrev pub lets : Images → Board
+  lets images = board part (length (images .main)) (settingsOf images .shown) (settingsOf images .protection)
 
--- the record is valid beside the images
-abbrev pub HasRecord : Running → Type 0
-HasRecord board = isRecord (board .session) (length (board .memory .main)) (length (board .memory .settings)) ≡ true
+  -- its images, and all of it
+  abbrev pub memoryThen : Images → Bool → Memory
+  memoryThen images struck =
+      memory (imageThen (part .«sector_size») struck (settingsOf images .protection) (images .main))
+      (imageThen (part .«sector_size») struck (settingsProtection (settingsOf images .shown)) (images .settings))
 
--- a board that stands locked, in a valid record
-pub record Locked (images : Images) (standing : Standing) : Type 0 where
-  pub valid : HasRecord (later images standing)
-  pub shut : isUnlocked (standing .phase) ≡ false
+  abbrev pub later : Images → Standing → Running
+  later images standing =
+      record { session = sessionThen images standing; memory = memoryThen images (isStruck (alertOf images) (standing .wrong)) }
 
-module _ (images : Images) where
-  -- a strike erases both images, whether it is the first or not
-  pub strike-erases : (packet : List ℕ) (struck : Bool)
-      → carriedOut (settingsOf images .shown) (settingsOf images .protection) packet (memoryThen images struck) EraseBoth ≡ memoryThen images true
-  strike-erases packet struck = ap₂ memory (struck-again _ _ _ struck) (struck-again _ _ _ struck)
+  -- the record is valid beside the images
+  abbrev pub HasRecord : Running → Type 0
+  HasRecord board = isRecord part (board .session) (length (board .memory .main)) (length (board .memory .settings)) ≡ true
 
-  -- what is claimed of a board's flash after a call
-  pub flash-is-as-claimed : (standing : Standing) → Flash images (standing .wrong) (later images standing .memory)
-  flash-is-as-claimed standing =
-      record {
-        mainSize = image-keeps-length _ _ _ _;
-        main = image-is-as-claimed _ _ _ _;
-        settingsSize = image-keeps-length _ _ _ _;
-        settings = image-is-as-claimed _ _ _ _;
-      }
+  -- a board that stands locked, in a valid record
+  pub record Locked (images : Images) (standing : Standing) : Type 0 where
+    pub valid : HasRecord (later images standing)
+    pub shut : isUnlocked (standing .phase) ≡ false
 
-  -- a session that starts has counted no wrong password
-  not-struck-at-start : isStruck (alertOf images) (atStart .wrong) ≡ false
-  unfolding isStruck atStart
-  not-struck-at-start = by-test (eqb (alertOf images) alertReset) (λ y. pick-true _ _ y) (λ n. pick-false _ _ n)
+  module _ (images : Images) where
+    -- a strike erases both images, whether it is the first or not
+    pub strike-erases : (packet : List ℕ) (struck : Bool)
+        → carriedOut part (settingsOf images .shown) (settingsOf images .protection) packet (memoryThen images struck) EraseBoth ≡ memoryThen images true
+    strike-erases packet struck = ap₂ memory (struck-again _ _ _ struck) (struck-again _ _ _ struck)
 
-  module _ (starts : startOf false (images .main) (images .settings) .answer .number ≡ 0) where
-    -- it is as at the start, locked and in a valid record
-    pub started-is-later : started images ≡ later images atStart
-    unfolding imageThen pick
-    started-is-later =
-        ap₂ (λ (session : Session) (images : Memory). record { session = session; memory = images })
-        (started-session false (images .main) (images .settings) starts)
-        (ap (memoryThen images) (sym not-struck-at-start))
+    -- what is claimed of a board's flash after a call
+    pub flash-is-as-claimed : (standing : Standing) → Flash part images (standing .wrong) (later images standing .memory)
+    flash-is-as-claimed standing =
+        record {
+          mainSize = image-keeps-length _ _ _ _;
+          main = image-is-as-claimed _ _ _ _;
+          settingsSize = image-keeps-length _ _ _ _;
+          settings = image-is-as-claimed _ _ _ _;
+        }
 
-    pub started-is-locked : Locked images atStart
-    unfolding atStart
-    started-is-locked =
-        record { valid = subst HasRecord started-is-later (started-is-valid false (images .main) (images .settings) starts); shut = refl }
+    -- a session that starts has counted no wrong password
+    not-struck-at-start : isStruck (alertOf images) (atStart .wrong) ≡ false
+    unfolding isStruck atStart
+    not-struck-at-start = by-test (eqb (alertOf images) alertReset) (λ y. pick-true _ _ y) (λ n. pick-false _ _ n)
+
+    module _ (starts : startOf part false (images .main) (images .settings) .answer .number ≡ 0) where
+      -- it is as at the start, locked and in a valid record
+      pub started-is-later : started part images ≡ later images atStart
+      unfolding imageThen pick
+      started-is-later =
+          ap₂ (λ (session : Session) (images : Memory). record { session = session; memory = images })
+          (started-session part false (images .main) (images .settings) starts)
+          (ap (memoryThen images) (sym not-struck-at-start))
+
+      pub started-is-locked : Sound part → Locked images atStart
+      unfolding atStart
+      started-is-locked sound =
+          record { valid = subst HasRecord started-is-later (started-is-valid part false (images .main) (images .settings) sound starts); shut = refl }

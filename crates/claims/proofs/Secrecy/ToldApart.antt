@@ -6,6 +6,9 @@ use mathlib.Core.List.{List, [], _∷_}
 use Prim.Native.Nat.{ℕ}
 use lib.ListN.{length}
 use lib.Seq.{take-append-seam}
+use Rattle.parts.specs.declared.Part.{Part}
+use Rattle.parts.specs.Parts.{mspm0, Sound}
+use Rattle.parts.proofs.PartLaws.{mspm0-is-sound}
 use Rattle.line.specs.declared.Reply.{Reply}
 use Rattle.line.specs.Replies.{replyBytes}
 use Rattle.session_state.specs.declared.Standing.{Standing}
@@ -15,7 +18,6 @@ use Rattle.session_judge.specs.declared.Effect.{Effect}
 use Rattle.session_judge.specs.declared.Judged.{Judged}
 use Rattle.session_judge.proofs.EffectTests.{isPerformed}
 use Rattle.session_judge.specs.Hearing.{judgedOf}
-use Rattle.session_act.specs.Board.{sectorSize}
 use Rattle.session_act.specs.Info.{versionAt}
 use Rattle.session_act.proofs.LockedLaws.{told-alike}
 use Rattle.session_send.specs.Answering.{hushed}
@@ -24,97 +26,103 @@ use Rattle.claims.specs.TwoBoards.{Images, settingsOf, started, AlikeBoa
 use Rattle.claims.proofs.Secrecy.LockedBoard.{imageThen, versions-stay-alike, alertOf, lets, later, Locked, flash-is-as-claimed, started-is-later, started-is-locked}
 use Rattle.claims.proofs.Secrecy.LockedCall.{verdict, bytesThen, leftThen, performs-nothing, call-is, stays-locked}
 
--- both boards stand locked, and alike
-record Together (one other : Images) (standing : Standing) : Type 0 where
-  oneLocked : Locked one standing
-  otherLocked : Locked other standing
+module _ (part : Part) (sound : Sound part) where
+  -- both boards stand locked, and alike
+  record Together (one other : Images) (standing : Standing) : Type 0 where
+    oneLocked : Locked part one standing
+    otherLocked : Locked part other standing
 
-module _ (one other : Images) (alike : AlikeBoards one other) where
-  -- ---- what both share
+  module _ (one other : Images) (alike : AlikeBoards part one other) where
+    -- ---- what both share
 
-  alert-alike : alertOf one ≡ alertOf other
-  alert-alike = ap (λ (shown : Shown). shown .alert) (alike .shown)
+    alert-alike : alertOf one ≡ alertOf other
+    alert-alike = ap (λ (shown : Shown). shown .alert) (alike .shown)
 
-  -- the same packet is judged alike
-  verdict-alike : (standing : Standing) (sending : Sending) → verdict other standing sending ≡ verdict one standing sending
-  verdict-alike standing sending = ap (λ (alert : ℕ). judgedOf standing alert (sending .wait) (sending .packet) false) (sym alert-alike)
+    -- the same packet is judged alike
+    verdict-alike : (standing : Standing) (sending : Sending) → verdict part other standing sending ≡ verdict part one standing sending
+    verdict-alike standing sending = ap (λ (alert : ℕ). judgedOf (part .«last_rate») standing alert (sending .wait) (sending .packet) false) (sym alert-alike)
 
-  -- the version that is published stays the same, also where the alert has struck
-  version-alike : (standing : Standing)
-      → versionAt (settingsOf one .shown .«version_pointer») (later one standing .memory .main)
-      ≡ versionAt (settingsOf other .shown .«version_pointer») (later other standing .memory .main)
-  version-alike standing =
-      let same = alike .version ∙ ap (λ (shown : Shown). versionAt (shown .«version_pointer») (other .main)) (sym (alike .shown)) in
-      versions-stay-alike _ (settingsOf one .protection) (one .main) (other .main) (alike .size) same (isStruck (alertOf one) (standing .wrong))
-      ∙ ap₂ (λ (shown : Shown) (protection : List ℕ). versionAt (shown .«version_pointer») (imageThen sectorSize (isStruck (shown .alert) (standing .wrong)) protection (other .main)))
-      (alike .shown) (alike .protection)
+    -- the version that is published stays the same, also where the alert has struck
+    version-alike : (standing : Standing)
+        → versionAt (settingsOf one .shown .«version_pointer») (later part one standing .memory .main)
+        ≡ versionAt (settingsOf other .shown .«version_pointer») (later part other standing .memory .main)
+    version-alike standing =
+        let same = alike .version ∙ ap (λ (shown : Shown). versionAt (shown .«version_pointer») (other .main)) (sym (alike .shown)) in
+        versions-stay-alike part sound _ (settingsOf one .protection) (one .main) (other .main) (alike .size) same (isStruck (alertOf one) (standing .wrong))
+        ∙ ap₂ (λ (shown : Shown) (protection : List ℕ). versionAt (shown .«version_pointer») (imageThen (part .«sector_size») (isStruck (shown .alert) (standing .wrong)) protection (other .main)))
+        (alike .shown) (alike .protection)
 
-  -- ---- one call
+    -- ---- one call
 
-  module _ (standing : Standing) (sending : Sending) where
-    -- the same effect is told in the same bytes
-    bytes-alike : (effect : Effect) → isPerformed effect ≡ false → bytesThen one standing sending effect ≡ bytesThen other standing sending effect
-    bytes-alike effect nothing =
-        ap (λ (reply : Reply). replyBytes (hushed (sending .packet) reply) [])
-        (told-alike (lets one) (lets other) _ _ (sending .packet) _ _ (alike .shown) (version-alike standing) effect nothing)
+    module _ (standing : Standing) (sending : Sending) where
+      -- the same effect is told in the same bytes
+      bytes-alike : (effect : Effect) → isPerformed effect ≡ false → bytesThen part one standing sending effect ≡ bytesThen part other standing sending effect
+      bytes-alike effect nothing =
+          ap (λ (reply : Reply). replyBytes (hushed (sending .packet) reply) [])
+          (told-alike (lets part one) (lets part other) _ _ (sending .packet) _ _ (alike .shown) (version-alike standing) effect nothing)
 
-    -- what two calls leave that decide alike
-    left-alike : (judged : Judged) → isPerformed (judged .effect) ≡ false → isUnlocked (judged .standing .phase) ≡ false
-        → Alike one other (leftThen one standing sending (sending .oneArea) judged) (leftThen other standing sending (sending .otherArea) judged)
-    left-alike judged nothing shut =
-        let same = bytes-alike (judged .effect) nothing in
-        record {
-          served = refl;
-          answers = ap (λ (bytes : List ℕ). callTold 0 (length bytes) (judged .burn)) same;
-          replies = take-append-seam _ _ ∙ same ∙ sym (take-append-seam _ _);
-          standing = refl;
-          locked = shut;
-          oneFlash = flash-is-as-claimed one (judged .standing);
-          otherFlash = flash-is-as-claimed other (judged .standing);
-        }
+      -- what two calls leave that decide alike
+      left-alike : (judged : Judged) → isPerformed (judged .effect) ≡ false → isUnlocked (judged .standing .phase) ≡ false
+          → Alike part one other (leftThen part one standing sending (sending .oneArea) judged) (leftThen part other standing sending (sending .otherArea) judged)
+      left-alike judged nothing shut =
+          let same = bytes-alike (judged .effect) nothing in
+          record {
+            served = refl;
+            answers = ap (λ (bytes : List ℕ). callTold 0 (length bytes) (judged .burn)) same;
+            replies = take-append-seam _ _ ∙ same ∙ sym (take-append-seam _ _);
+            standing = refl;
+            locked = shut;
+            oneFlash = flash-is-as-claimed part one (judged .standing);
+            otherFlash = flash-is-as-claimed part other (judged .standing);
+          }
 
-  module _ (standing : Standing) (together : Together one other standing) (sending : Sending) (without : WithoutPassword one other sending) where
-    -- what both decide
-    abbrev decided : Judged
-    decided = verdict one standing sending
+    module _ (standing : Standing) (together : Together one other standing) (sending : Sending) (without : WithoutPassword part one other sending) where
+      -- what both decide
+      abbrev decided : Judged
+      decided = verdict part one standing sending
 
-    -- what both calls leave
-    one-is : called (later one standing) sending (sending .oneArea) ≡ leftThen one standing sending (sending .oneArea) decided
-    one-is = call-is one standing (together .oneLocked) sending (sending .oneArea) (without .notOne) (without .oneRoom)
+      -- what both calls leave
+      one-is : called part (later part one standing) sending (sending .oneArea) ≡ leftThen part one standing sending (sending .oneArea) decided
+      one-is = call-is part one standing (together .oneLocked) sending (sending .oneArea) (without .notOne) (without .oneRoom)
 
-    other-is : called (later other standing) sending (sending .otherArea) ≡ leftThen other standing sending (sending .otherArea) decided
-    other-is =
-        call-is other standing (together .otherLocked) sending (sending .otherArea) (without .notOther) (without .otherRoom)
-        ∙ ap (leftThen other standing sending (sending .otherArea)) (verdict-alike standing sending)
+      other-is : called part (later part other standing) sending (sending .otherArea) ≡ leftThen part other standing sending (sending .otherArea) decided
+      other-is =
+          call-is part other standing (together .otherLocked) sending (sending .otherArea) (without .notOther) (without .otherRoom)
+          ∙ ap (leftThen part other standing sending (sending .otherArea)) (verdict-alike standing sending)
 
-    stay-together : Together one other (decided .standing)
-    stay-together = record {
-      oneLocked = stays-locked one standing (together .oneLocked) sending (sending .oneArea) (without .notOne) (without .oneRoom);
-      otherLocked =
-          subst (λ (judged : Judged). Locked other (judged .standing)) (verdict-alike standing sending)
-          (stays-locked other standing (together .otherLocked) sending (sending .otherArea) (without .notOther) (without .otherRoom));
-    }
+      stay-together : Together one other (decided .standing)
+      stay-together = record {
+        oneLocked = stays-locked part one standing (together .oneLocked) sending (sending .oneArea) (without .notOne) (without .oneRoom) sound;
+        otherLocked =
+            subst (λ (judged : Judged). Locked part other (judged .standing)) (verdict-alike standing sending)
+            (stays-locked part other standing (together .otherLocked) sending (sending .otherArea) (without .notOther) (without .otherRoom) sound);
+      }
 
-    call-alike : Alike one other (called (later one standing) sending (sending .oneArea)) (called (later other standing) sending (sending .otherArea))
-    call-alike =
-        rw (one-is, other-is)
-        (left-alike standing sending decided (performs-nothing one standing (together .oneLocked) sending) (stay-together .oneLocked .shut))
+      call-alike : Alike part one other (called part (later part one standing) sending (sending .oneArea)) (called part (later part other standing) sending (sending .otherArea))
+      call-alike =
+          rw (one-is, other-is)
+          (left-alike standing sending decided (performs-nothing part one standing (together .oneLocked) sending) (stay-together .oneLocked .shut))
 
-  -- ---- any list of calls
+    -- ---- any list of calls
 
-  alike-from : (sendings : List Sending) (standing : Standing) → Together one other standing
-      → AlikeThroughout one other (later one standing) (later other standing) sendings
-  alike-from [] standing together = tt
-  alike-from (sending ∷ sendings) standing together = λ without. (
-    call-alike standing together sending without,
-    rw (one-is standing together sending without, other-is standing together sending without)
-        (alike-from sendings _ (stay-together standing together sending without)),
-  )
+    alike-from : (sendings : List Sending) (standing : Standing) → Together one other standing
+        → AlikeThroughout part one other (later part one standing) (later part other standing) sendings
+    alike-from [] standing together = tt
+    alike-from (sending ∷ sendings) standing together = λ without. (
+      call-alike standing together sending without,
+      rw (one-is standing together sending without, other-is standing together sending without)
+          (alike-from sendings _ (stay-together standing together sending without)),
+    )
 
--- over any one session, at every point of it
-pub two-boards-are-alike : (one other : Images) → AlikeBoards one other → (sendings : List Sending)
-    → AlikeThroughout one other (started one) (started other) sendings
-two-boards-are-alike one other alike sendings =
-    rw (started-is-later one (alike .oneStarts), started-is-later other (alike .otherStarts))
-    (alike-from one other alike sendings atStart
-    (record { oneLocked = started-is-locked one (alike .oneStarts); otherLocked = started-is-locked other (alike .otherStarts) }))
+  -- over any one session of two boards of one sound part, at every point of it
+  pub two-boards-are-alike : (one other : Images) → AlikeBoards part one other → (sendings : List Sending)
+      → AlikeThroughout part one other (started part one) (started part other) sendings
+  two-boards-are-alike one other alike sendings =
+      rw (started-is-later part one (alike .oneStarts), started-is-later part other (alike .otherStarts))
+      (alike-from one other alike sendings atStart
+      (record { oneLocked = started-is-locked part one (alike .oneStarts) sound; otherLocked = started-is-locked part other (alike .otherStarts) sound }))
+
+-- two boards of the MSPM0
+pub mspm0-boards-are-alike : (one other : Images) → AlikeBoards mspm0 one other → (sendings : List Sending)
+    → AlikeThroughout mspm0 one other (started mspm0 one) (started mspm0 other) sendings
+mspm0-boards-are-alike = two-boards-are-alike mspm0 mspm0-is-sound

@@ -9,6 +9,9 @@ use lib.ListN.{length, take}
 use Rattle.octets.specs.Choice.{pick}
 use Rattle.octets.specs.Number.{bytesOf}
 use Rattle.octets.proofs.Searching.{pick-true, pick-false}
+use Rattle.parts.specs.declared.Part.{Part}
+use Rattle.parts.specs.Parts.{mspm0, Sound}
+use Rattle.parts.proofs.PartLaws.{mspm0-is-sound}
 use Rattle.line.specs.Codes.{replyLimit}
 use Rattle.session_state.specs.declared.Phase.{Phase}
 use Rattle.session_state.specs.declared.Phase.the-variants.{Detect, Command, Standby, Ended, Disabled}
@@ -23,10 +26,10 @@ use Rattle.session.specs.Starting.{startOf}
 use Rattle.session.specs.Calling.{serveOf, callOf}
 use Rattle.session.proofs.CallLaws.{every-call, call-size-fits}
 use Rattle.session.proofs.RecordLaws.{record-by-clauses}
-use Rattle.c_boundary.specs.OneNumber.{refusalUnit, burnUnit, oneNumber}
-use Rattle.c_boundary.specs.Stored.{Stored, stored, storedBy}
-use Rattle.c_boundary.specs.Records.{recordSize, lockCode, standingBytes, recordOf}
-use Rattle.c_boundary.specs.Boundary.{Called, storedAfter, calledFrom, calledAfter, callFromC}
+use Rattle.c_records.specs.OneNumber.{refusalUnit, burnUnit, oneNumber}
+use Rattle.c_records.specs.Stored.{Stored, stored, storedBy}
+use Rattle.c_records.specs.Records.{recordSize, lockCode, standingBytes, recordOf}
+use Rattle.c_records.specs.Boundary.{Called, storedAfter, calledFrom, calledAfter, callFromC}
 use Rattle.claims.specs.Held.{Held}
 use Rattle.claims.specs.TwoBoards.{Images, Running, started, AlikeBoards, Sending, called, next, replied, Flash, Alike, AlikeThroughout}
 use Rattle.claims.specs.TwoBoardsFromC.{RunningFromC, startedOn, startedFromC, Lent, calledFromC, repliedFromC, standsFromC, lockIn, AlikeFromC, AlikeCallsFromC, AlikeSessionsFromC}
@@ -51,42 +54,6 @@ leftFromC left =
       memory = left .memory;
       reply = left .area;
     }
-
--- a board whose record is valid, and whose settings can be held
-record Sound (board : Running) : Type 0 where
-  valid : HasRecord board
-  held : Held (board .session .settings)
-
-module _ (board : Running) (sound : Sound board) (sending : Sending) (reply : List ℕ) where
-  abbrev after : Left
-  after = called board sending reply
-
-  sound-then : Sound (next after)
-  unfolding serveOf
-  sound-then = record {
-    valid = valid-stays-valid (board .session) (board .memory) (sending .wait) (sending .packet) reply (sound .valid);
-    held =
-        every-call (board .session) (board .memory) (sending .wait) (sending .packet) reply (λ left. Held (left .session .settings))
-        (λ number. sound .held) (sound .held);
-  }
-
-  module _ (room : replyLimit ≤ length reply) where
-    served : after .answer .number ≡ 0
-    unfolding serveOf
-    served =
-        ap (λ (left : Left). left .answer .number)
-        (valid-is-served (board .session) (board .memory) (sending .wait) (sending .packet) reply (sound .valid) room)
-
-    -- a call from C does what the call on the session does
-    call-from-C : calledFromC (fromC board) sending reply ≡ leftFromC after
-    unfolding callFromC storedAfter
-    call-from-C =
-        let held = valid-is-held (board .session) _ _ (sound .valid) (sound .held) in
-        pick-false _ _ (le-ltb (length reply) replyLimit room)
-        ∙ pick-false _ _ (ap not (encoded-is-record (board .session) held))
-        ∙ ap (λ (session : Session). calledAfter (recordOf (board .session)) (callOf session (board .memory) (sending .wait) (sending .packet) reply))
-        (decode-after-encode (board .session) held)
-        ∙ ap (λ (told : Stored). calledFrom told after) (pick-true _ _ (eq-eqb _ _ served))
 
 -- ---- what a record area and a number say
 
@@ -113,12 +80,6 @@ unfolding pick
 number-says true size h = (omega arith, omega arith)
 number-says false size h = (omega arith, omega arith)
 
--- ---- one call
-
--- the size of MAIN in a valid record is that at the start
-main-size-is : (images : Images) (left : Left) → Sound (next left) → Flash images (left .session .standing .wrong) (left .memory) → left .session .«main_size» ≡ length (images .main)
-main-size-is images left sound flash = sym (record-by-clauses _ _ _ (sound .valid) .main) ∙ flash .mainSize
-
 stands-alike : (one other : Session) → one .standing ≡ other .standing → one .«main_size» ≡ other .«main_size»
     → standsFromC (recordOf one) ≡ standsFromC (recordOf other)
 stands-alike one other standing size =
@@ -127,83 +88,133 @@ stands-alike one other standing size =
 replied-is : (left : Left) → left .answer .size ≤ 1729 → repliedFromC (leftFromC left) ≡ replied left
 replied-is left fits = ap (λ (size : ℕ). take size (left .area)) (number-says (left .answer .burn) (left .answer .size) fits .1)
 
-module _ (one other : Images) (size : length (one .main) ≡ length (other .main)) (oneLeft otherLeft : Left) where
-  -- what is alike by the sessions is alike by the areas
-  alike-from-C : Alike one other oneLeft otherLeft → Sound (next oneLeft) → Sound (next otherLeft)
-      → oneLeft .answer .size ≤ 1729 → otherLeft .answer .size ≤ 1729
-      → AlikeFromC one other (leftFromC oneLeft) (leftFromC otherLeft)
-  unfolding recordOf
-  alike-from-C alike oneSound otherSound oneFits otherFits =
-      let sizes = main-size-is one oneLeft oneSound (alike .oneFlash) ∙ size ∙ sym (main-size-is other otherLeft otherSound (alike .otherFlash)) in
+-- ---- a board of a sound part, and a call of it
+
+module _ (part : Part) (sound : Sound part) where
+  -- a board whose record is valid, and whose settings can be held
+  record Fine (board : Running) : Type 0 where
+    valid : HasRecord part board
+    held : Held (board .session .settings)
+
+  module _ (board : Running) (fine : Fine board) (sending : Sending) (reply : List ℕ) where
+    abbrev after : Left
+    after = called part board sending reply
+
+    fine-then : Fine (next after)
+    unfolding serveOf
+    fine-then = record {
+      valid = valid-stays-valid part (board .session) (board .memory) (sending .wait) (sending .packet) reply sound (fine .valid);
+      held =
+          every-call part (board .session) (board .memory) (sending .wait) (sending .packet) reply (λ left. Held (left .session .settings))
+          (λ number. fine .held) (fine .held);
+    }
+
+    module _ (room : replyLimit ≤ length reply) where
+      served : after .answer .number ≡ 0
+      unfolding serveOf
+      served =
+          ap (λ (left : Left). left .answer .number)
+          (valid-is-served part (board .session) (board .memory) (sending .wait) (sending .packet) reply (fine .valid) room)
+
+      -- a call from C does what the call on the session does
+      call-from-C : calledFromC part (fromC board) sending reply ≡ leftFromC after
+      unfolding callFromC storedAfter
+      call-from-C =
+          let held = valid-is-held part sound (board .session) _ _ (fine .valid) (fine .held) in
+          pick-false _ _ (le-ltb (length reply) replyLimit room)
+          ∙ pick-false _ _ (ap not (encoded-is-record (board .session) held))
+          ∙ ap (λ (session : Session). calledAfter (recordOf (board .session)) (callOf part session (board .memory) (sending .wait) (sending .packet) reply))
+          (decode-after-encode (board .session) held)
+          ∙ ap (λ (told : Stored). calledFrom told after) (pick-true _ _ (eq-eqb _ _ served))
+
+  -- ---- one call
+
+  -- the size of MAIN in a valid record is that at the start
+  main-size-is : (images : Images) (left : Left) → Fine (next left) → Flash part images (left .session .standing .wrong) (left .memory) → left .session .«main_size» ≡ length (images .main)
+  main-size-is images left fine flash = sym (record-by-clauses part _ _ _ (fine .valid) .main) ∙ flash .mainSize
+
+  module _ (one other : Images) (size : length (one .main) ≡ length (other .main)) (oneLeft otherLeft : Left) where
+    -- what is alike by the sessions is alike by the areas
+    alike-from-C : Alike part one other oneLeft otherLeft → Fine (next oneLeft) → Fine (next otherLeft)
+        → oneLeft .answer .size ≤ 1729 → otherLeft .answer .size ≤ 1729
+        → AlikeFromC part one other (leftFromC oneLeft) (leftFromC otherLeft)
+    unfolding recordOf
+    alike-from-C alike oneFine otherFine oneFits otherFits =
+        let sizes = main-size-is one oneLeft oneFine (alike .oneFlash) ∙ size ∙ sym (main-size-is other otherLeft otherFine (alike .otherFlash)) in
+        record {
+          served = number-says (oneLeft .answer .burn) (oneLeft .answer .size) oneFits .0;
+          answers = ap (λ (told : CallTold). oneNumber 0 (told .burn) (told .size)) (alike .answers);
+          replies = replied-is oneLeft oneFits ∙ alike .replies ∙ sym (replied-is otherLeft otherFits);
+          stands = stands-alike (oneLeft .session) (otherLeft .session) (alike .standing) sizes;
+          locked = lock-is-0 (oneLeft .session) (alike .locked);
+          oneFlash = alike .oneFlash;
+          otherFlash = alike .otherFlash;
+        }
+
+  -- ---- any list of calls
+
+  module _ (one other : Images) (size : length (one .main) ≡ length (other .main)) where
+    calls-alike : (sendings : List Sending) (oneNow otherNow : Running) → Fine oneNow → Fine otherNow
+        → AlikeThroughout part one other oneNow otherNow sendings → AlikeCallsFromC part one other (fromC oneNow) (fromC otherNow) sendings
+    calls-alike [] oneNow otherNow oneFine otherFine through = tt
+    calls-alike (sending ∷ sendings) oneNow otherNow oneFine otherFine through = λ without.
+        let here = through without in
+        let oneThen = fine-then oneNow oneFine sending (sending .oneArea) in
+        let otherThen = fine-then otherNow otherFine sending (sending .otherArea) in
+        let oneIs = call-from-C oneNow oneFine sending (sending .oneArea) (without .oneRoom) in
+        let otherIs = call-from-C otherNow otherFine sending (sending .otherArea) (without .otherRoom) in
+        rw (oneIs, otherIs) (
+          alike-from-C one other size _ _ (here .0) oneThen otherThen
+              (call-size-fits part (oneNow .session) (oneNow .memory) (sending .wait) (sending .packet) (sending .oneArea))
+              (call-size-fits part (otherNow .session) (otherNow .memory) (sending .wait) (sending .packet) (sending .otherArea)),
+          calls-alike sendings _ _ oneThen otherThen (here .1),
+        )
+
+  -- ---- start
+
+  -- a start that answers 0 names no entry, and its settings were accepted
+  start-accepts : (main settings : List ℕ) → startOf part false main settings .answer .number ≡ 0
+      → (startOf part false main settings .answer ≡ numbered 0 0) × (readOf form1 settings .number ≡ 0)
+  start-accepts main settings =
+      every-start part false main settings (λ told. (told .answer ≡ numbered 0 0) × (readOf form1 settings .number ≡ 0)) (λ size read. (refl, read))
+
+  module _ (images : Images) (area : List ℕ) (lent : Lent images area) (starts : startOf part false (images .main) (images .settings) .answer .number ≡ 0) where
+    start-from-C : startedOn part images area ≡ stored 0 (recordOf (started part images .session))
+    unfolding storedBy pick
+    start-from-C =
+        rw (start-accepts (images .main) (images .settings) starts .0, eq-eqb (length area) recordSize (lent .size))
+
+    pub started-from-C : startedFromC part images area ≡ fromC (started part images)
+    started-from-C = ap (λ (left : Stored). record { area = left .area; memory = images }) start-from-C
+
+    started-is-fine : Fine (started part images)
+    started-is-fine = record {
+      valid = started-is-valid part false (images .main) (images .settings) sound starts;
+      held =
+          rw (started-session part false (images .main) (images .settings) starts)
+          (read-is-held (images .settings) (lent .bytes) (start-accepts (images .main) (images .settings) starts .1));
+    }
+
+  -- over any one session from C of two boards of one sound part, at every point of it
+  pub two-boards-are-alike-from-C : (one other : Images) (oneArea otherArea : List ℕ) → AlikeBoards part one other → Lent one oneArea → Lent other otherArea
+      → (sendings : List Sending) → AlikeSessionsFromC part one other oneArea otherArea sendings
+  two-boards-are-alike-from-C one other oneArea otherArea alike oneLent otherLent sendings =
+      let oneIs = start-from-C one oneArea oneLent (alike .oneStarts) in
+      let otherIs = start-from-C other otherArea otherLent (alike .otherStarts) in
       record {
-        served = number-says (oneLeft .answer .burn) (oneLeft .answer .size) oneFits .0;
-        answers = ap (λ (told : CallTold). oneNumber 0 (told .burn) (told .size)) (alike .answers);
-        replies = replied-is oneLeft oneFits ∙ alike .replies ∙ sym (replied-is otherLeft otherFits);
-        stands = stands-alike (oneLeft .session) (otherLeft .session) (alike .standing) sizes;
-        locked = lock-is-0 (oneLeft .session) (alike .locked);
-        oneFlash = alike .oneFlash;
-        otherFlash = alike .otherFlash;
+        oneStarts = ap (λ (left : Stored). left .answer) oneIs;
+        otherStarts = ap (λ (left : Stored). left .answer) otherIs;
+        stands =
+            rw (oneIs, otherIs, started-session part false (one .main) (one .settings) (alike .oneStarts), started-session part false (other .main) (other .settings) (alike .otherStarts))
+            (stands-alike _ _ refl (alike .size));
+        calls =
+            rw (started-from-C one oneArea oneLent (alike .oneStarts), started-from-C other otherArea otherLent (alike .otherStarts))
+            (calls-alike one other (alike .size) sendings (started part one) (started part other)
+            (started-is-fine one oneArea oneLent (alike .oneStarts)) (started-is-fine other otherArea otherLent (alike .otherStarts))
+            (two-boards-are-alike part sound one other alike sendings));
       }
 
--- ---- any list of calls
-
-module _ (one other : Images) (size : length (one .main) ≡ length (other .main)) where
-  calls-alike : (sendings : List Sending) (oneNow otherNow : Running) → Sound oneNow → Sound otherNow
-      → AlikeThroughout one other oneNow otherNow sendings → AlikeCallsFromC one other (fromC oneNow) (fromC otherNow) sendings
-  calls-alike [] oneNow otherNow oneSound otherSound through = tt
-  calls-alike (sending ∷ sendings) oneNow otherNow oneSound otherSound through = λ without.
-      let here = through without in
-      let oneThen = sound-then oneNow oneSound sending (sending .oneArea) in
-      let otherThen = sound-then otherNow otherSound sending (sending .otherArea) in
-      let oneIs = call-from-C oneNow oneSound sending (sending .oneArea) (without .oneRoom) in
-      let otherIs = call-from-C otherNow otherSound sending (sending .otherArea) (without .otherRoom) in
-      rw (oneIs, otherIs) (
-        alike-from-C one other size _ _ (here .0) oneThen otherThen
-            (call-size-fits (oneNow .session) (oneNow .memory) (sending .wait) (sending .packet) (sending .oneArea))
-            (call-size-fits (otherNow .session) (otherNow .memory) (sending .wait) (sending .packet) (sending .otherArea)),
-        calls-alike sendings _ _ oneThen otherThen (here .1),
-      )
-
--- ---- start
-
--- a start that answers 0 names no entry, and its settings were accepted
-start-accepts : (main settings : List ℕ) → startOf false main settings .answer .number ≡ 0
-    → (startOf false main settings .answer ≡ numbered 0 0) × (readOf form1 settings .number ≡ 0)
-start-accepts main settings =
-    every-start false main settings (λ told. (told .answer ≡ numbered 0 0) × (readOf form1 settings .number ≡ 0)) (λ size read. (refl, read))
-
-module _ (images : Images) (area : List ℕ) (lent : Lent images area) (starts : startOf false (images .main) (images .settings) .answer .number ≡ 0) where
-  start-from-C : startedOn images area ≡ stored 0 (recordOf (started images .session))
-  unfolding storedBy pick
-  start-from-C =
-      rw (start-accepts (images .main) (images .settings) starts .0, eq-eqb (length area) recordSize (lent .size))
-
-  pub started-from-C : startedFromC images area ≡ fromC (started images)
-  started-from-C = ap (λ (left : Stored). record { area = left .area; memory = images }) start-from-C
-
-  started-is-sound : Sound (started images)
-  started-is-sound = record {
-    valid = started-is-valid false (images .main) (images .settings) starts;
-    held =
-        rw (started-session false (images .main) (images .settings) starts)
-        (read-is-held (images .settings) (lent .bytes) (start-accepts (images .main) (images .settings) starts .1));
-  }
-
--- over any one session from C, at every point of it
-pub two-boards-are-alike-from-C : (one other : Images) (oneArea otherArea : List ℕ) → AlikeBoards one other → Lent one oneArea → Lent other otherArea
-    → (sendings : List Sending) → AlikeSessionsFromC one other oneArea otherArea sendings
-two-boards-are-alike-from-C one other oneArea otherArea alike oneLent otherLent sendings =
-    let oneIs = start-from-C one oneArea oneLent (alike .oneStarts) in
-    let otherIs = start-from-C other otherArea otherLent (alike .otherStarts) in
-    record {
-      oneStarts = ap (λ (left : Stored). left .answer) oneIs;
-      otherStarts = ap (λ (left : Stored). left .answer) otherIs;
-      stands =
-          rw (oneIs, otherIs, started-session false (one .main) (one .settings) (alike .oneStarts), started-session false (other .main) (other .settings) (alike .otherStarts))
-          (stands-alike _ _ refl (alike .size));
-      calls =
-          rw (started-from-C one oneArea oneLent (alike .oneStarts), started-from-C other otherArea otherLent (alike .otherStarts))
-          (calls-alike one other (alike .size) sendings (started one) (started other)
-          (started-is-sound one oneArea oneLent (alike .oneStarts)) (started-is-sound other otherArea otherLent (alike .otherStarts))
-          (two-boards-are-alike one other alike sendings));
-    }
+-- two boards of the MSPM0
+pub mspm0-boards-are-alike-from-C : (one other : Images) (oneArea otherArea : List ℕ) → AlikeBoards mspm0 one other → Lent one oneArea → Lent other otherArea
+    → (sendings : List Sending) → AlikeSessionsFromC mspm0 one other oneArea otherArea sendings
+mspm0-boards-are-alike-from-C = two-boards-are-alike-from-C mspm0 mspm0-is-sound

@@ -6,6 +6,7 @@ use Prim.Native.Nat.{ℕ, _*_, _/_, _<_}
 use lib.Dec.{ltb}
 use lib.ListN.{length}
 use Rattle.octets.proofs.Searching.{pick-true, pick-false, by-test}
+use Rattle.parts.specs.declared.Part.{Part}
 use Rattle.line.specs.Codes.{replyLimit}
 use Rattle.line.specs.Packet.{dataIn}
 use Rattle.settings.specs.declared.Shown.{Shown}
@@ -17,7 +18,7 @@ use Rattle.flash.specs.Programming.{programOf}
 use Rattle.session_judge.specs.declared.Effect.{Effect}
 use Rattle.session_act.specs.declared.Order.{Order}
 use Rattle.session_act.specs.declared.Order.the-variants.{Keep, EraseBetween, EraseMain, EraseBoth, ProgramMain, ProgramSettings}
-use Rattle.session_act.specs.Board.{acted, board, sectorSize, settingsProtection}
+use Rattle.session_act.specs.Board.{acted, board, settingsProtection}
 use Rattle.session_act.specs.Orders.{carriedOut}
 use Rattle.session_act.specs.Acting.{planOf, actOf}
 use Rattle.session.specs.declared.Session.{Session}
@@ -25,77 +26,78 @@ use Rattle.session.specs.CallAnswers.{Left, left}
 use Rattle.session.specs.Records.{isRecord}
 use Rattle.session.specs.Calling.{judgement, intent, answered, serveOf, callOf}
 
--- bits that say the same of every sector of a memory of so many bytes
-abbrev pub AgreeWithin : ℕ → List ℕ → List ℕ → Type 0
-AgreeWithin size bits others = (sector : ℕ) → sector * sectorSize < size → isProtected bits sector ≡ isProtected others sector
+module _ (part : Part) where
+  -- bits that say the same of every sector of a memory of so many bytes
+  abbrev pub AgreeWithin : ℕ → List ℕ → List ℕ → Type 0
+  AgreeWithin size bits others = (sector : ℕ) → sector * part .«sector_size» < size → isProtected bits sector ≡ isProtected others sector
 
--- ---- what is done
+  -- ---- what is done
 
-module _ (mainSize : ℕ) (shown : Shown) (bits others : List ℕ) (before : Memory) (agree : AgreeWithin (length (before .main)) bits others) where
-  erased-same : (first last : ℕ) → eraseOf sectorSize bits first last (before .main) ≡ eraseOf sectorSize others first last (before .main)
-  unfolding eraseOf
-  erased-same first last = bits-beyond-have-no-effect sectorSize bits others _ (before .main) agree
+  module _ (mainSize : ℕ) (shown : Shown) (bits others : List ℕ) (before : Memory) (agree : AgreeWithin (length (before .main)) bits others) where
+    erased-same : (first last : ℕ) → eraseOf (part .«sector_size») bits first last (before .main) ≡ eraseOf (part .«sector_size») others first last (before .main)
+    unfolding eraseOf
+    erased-same first last = bits-beyond-have-no-effect (part .«sector_size») bits others _ (before .main) agree
 
-  all-erased-same : eraseAllOf sectorSize bits (before .main) ≡ eraseAllOf sectorSize others (before .main)
-  unfolding eraseAllOf
-  all-erased-same = bits-beyond-have-no-effect sectorSize bits others _ (before .main) agree
+    all-erased-same : eraseAllOf (part .«sector_size») bits (before .main) ≡ eraseAllOf (part .«sector_size») others (before .main)
+    unfolding eraseAllOf
+    all-erased-same = bits-beyond-have-no-effect (part .«sector_size») bits others _ (before .main) agree
 
-  programmed-same : (at : ℕ) (bytes : List ℕ) → programOf sectorSize bits at bytes (before .main) ≡ programOf sectorSize others at bytes (before .main)
-  unfolding programOf
-  programmed-same at bytes = bits-beyond-have-no-effect sectorSize bits others _ (before .main) agree
+    programmed-same : (at : ℕ) (bytes : List ℕ) → programOf (part .«sector_size») bits at bytes (before .main) ≡ programOf (part .«sector_size») others at bytes (before .main)
+    unfolding programOf
+    programmed-same at bytes = bits-beyond-have-no-effect (part .«sector_size») bits others _ (before .main) agree
 
-  -- an order leaves the same
-  order-same : (packet : List ℕ) (order : Order) → carriedOut shown bits packet before order ≡ carriedOut shown others packet before order
-  order-same packet Keep = refl
-  order-same packet (EraseBetween start end) =
-      ap (λ (main : List ℕ). memory main (before .settings)) (erased-same (start / sectorSize) (end / sectorSize))
-  order-same packet EraseMain = ap (λ (main : List ℕ). memory main (before .settings)) all-erased-same
-  order-same packet EraseBoth =
-      ap (λ (main : List ℕ). memory main (eraseAllOf sectorSize (settingsProtection shown) (before .settings))) all-erased-same
-  order-same packet (ProgramMain offset size) = ap (λ (main : List ℕ). memory main (before .settings)) (programmed-same offset (dataIn size packet))
-  order-same packet (ProgramSettings offset size) = refl
+    -- an order leaves the same
+    order-same : (packet : List ℕ) (order : Order) → carriedOut part shown bits packet before order ≡ carriedOut part shown others packet before order
+    order-same packet Keep = refl
+    order-same packet (EraseBetween start end) =
+        ap (λ (main : List ℕ). memory main (before .settings)) (erased-same (start / part .«sector_size») (end / part .«sector_size»))
+    order-same packet EraseMain = ap (λ (main : List ℕ). memory main (before .settings)) all-erased-same
+    order-same packet EraseBoth =
+        ap (λ (main : List ℕ). memory main (eraseAllOf (part .«sector_size») (settingsProtection shown) (before .settings))) all-erased-same
+    order-same packet (ProgramMain offset size) = ap (λ (main : List ℕ). memory main (before .settings)) (programmed-same offset (dataIn size packet))
+    order-same packet (ProgramSettings offset size) = refl
 
-  -- and no plan hears of the bits
-  act-same : (right : Bool) (packet : List ℕ) (effect : Effect)
-      → actOf (board mainSize shown bits) right packet before effect ≡ actOf (board mainSize shown others) right packet before effect
-  act-same right packet effect =
-      ap (acted (planOf mainSize shown right before effect .reply)) (order-same packet (planOf mainSize shown right before effect .order))
+    -- and no plan hears of the bits
+    act-same : (right : Bool) (packet : List ℕ) (effect : Effect)
+        → actOf (board part mainSize shown bits) right packet before effect ≡ actOf (board part mainSize shown others) right packet before effect
+    act-same right packet effect =
+        ap (acted (planOf part mainSize shown right before effect .reply)) (order-same packet (planOf part mainSize shown right before effect .order))
 
--- ---- a call
+  -- ---- a call
 
--- a session with other protection bits
-abbrev pub withBits : List ℕ → Session → Session
-withBits bits session = record {
-  standing = session .standing;
-  «main_size» = session .«main_size»;
-  settings = record {
-    shown = session .settings .shown;
-    protection = bits;
-    password = session .settings .password;
-    «reset_password» = session .settings .«reset_password»;
-  };
-}
+  -- a session with other protection bits
+  abbrev pub withBits : List ℕ → Session → Session
+  withBits bits session = record {
+    standing = session .standing;
+    «main_size» = session .«main_size»;
+    settings = record {
+      shown = session .settings .shown;
+      protection = bits;
+      password = session .settings .password;
+      «reset_password» = session .settings .«reset_password»;
+    };
+  }
 
-abbrev pub leftWithBits : List ℕ → Left → Left
-leftWithBits bits after = left (after .answer) (withBits bits (after .session)) (after .memory) (after .area)
+  abbrev pub leftWithBits : List ℕ → Left → Left
+  leftWithBits bits after = left (after .answer) (withBits bits (after .session)) (after .memory) (after .area)
 
-module _ (session : Session) (bits : List ℕ) (before : Memory) (wait : ℕ) (packet area : List ℕ)
-    (agree : AgreeWithin (length (before .main)) bits (session .settings .protection)) where
-  served-same : serveOf (withBits bits session) before wait packet area ≡ leftWithBits bits (serveOf session before wait packet area)
-  unfolding serveOf
-  served-same =
-      ap (answered (withBits bits session) packet area (judgement session wait packet) (intent session packet before (judgement session wait packet .effect)))
-      (act-same _ _ bits (session .settings .protection) before agree _ packet (judgement session wait packet .effect))
+  module _ (session : Session) (bits : List ℕ) (before : Memory) (wait : ℕ) (packet area : List ℕ)
+      (agree : AgreeWithin (length (before .main)) bits (session .settings .protection)) where
+    served-same : serveOf part (withBits bits session) before wait packet area ≡ leftWithBits bits (serveOf part session before wait packet area)
+    unfolding serveOf
+    served-same =
+        ap (answered (withBits bits session) packet area (judgement (part .«last_rate») session wait packet) (intent part session packet before (judgement (part .«last_rate») session wait packet .effect)))
+        (act-same _ _ bits (session .settings .protection) before agree _ packet (judgement (part .«last_rate») session wait packet .effect))
 
-  -- the answer, how the session stands, both images and the reply area are the same; the bits are kept
-  pub bits-beyond-main-have-no-effect : callOf (withBits bits session) before wait packet area ≡ leftWithBits bits (callOf session before wait packet area)
-  unfolding callOf isRecord
-  bits-beyond-main-have-no-effect =
-      by-test (ltb (length area) replyLimit)
-      (λ y. pick-true _ _ y ∙ sym (ap (leftWithBits bits) (pick-true _ _ y)))
-      (λ n.
-      pick-false _ _ n
-      ∙ by-test (not (isRecord session (length (before .main)) (length (before .settings))))
-      (λ y. pick-true _ _ y ∙ sym (ap (leftWithBits bits) (pick-true _ _ y)))
-      (λ m. pick-false _ _ m ∙ served-same ∙ sym (ap (leftWithBits bits) (pick-false _ _ m)))
-      ∙ sym (ap (leftWithBits bits) (pick-false _ _ n)))
+    -- the answer, how the session stands, both images and the reply area are the same; the bits are kept
+    pub bits-beyond-main-have-no-effect : callOf part (withBits bits session) before wait packet area ≡ leftWithBits bits (callOf part session before wait packet area)
+    unfolding callOf isRecord
+    bits-beyond-main-have-no-effect =
+        by-test (ltb (length area) replyLimit)
+        (λ y. pick-true _ _ y ∙ sym (ap (leftWithBits bits) (pick-true _ _ y)))
+        (λ n.
+        pick-false _ _ n
+        ∙ by-test (not (isRecord part session (length (before .main)) (length (before .settings))))
+        (λ y. pick-true _ _ y ∙ sym (ap (leftWithBits bits) (pick-true _ _ y)))
+        (λ m. pick-false _ _ m ∙ served-same ∙ sym (ap (leftWithBits bits) (pick-false _ _ m)))
+        ∙ sym (ap (leftWithBits bits) (pick-false _ _ n)))

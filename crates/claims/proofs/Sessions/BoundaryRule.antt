@@ -9,6 +9,7 @@ use lib.Dec.{ltb, eqb}
 use lib.ListN.{length, getD}
 use Rattle.octets.specs.Choice.{pick}
 use Rattle.octets.proofs.Searching.{by-pick}
+use Rattle.parts.specs.declared.Part.{Part}
 use Rattle.line.specs.Codes.{replyLimit}
 use Rattle.settings.specs.declared.Settings.{Settings}
 use Rattle.settings.specs.Values.{isAllowed}
@@ -20,15 +21,15 @@ use Rattle.settings.specs.Answers.{Numbered, numbered, WriteLeft, writeLeft}
 use Rattle.settings.specs.Reader.{readOf}
 use Rattle.settings.specs.Writer.{writeOf}
 use Rattle.flash.specs.Memory.{Memory}
-use Rattle.c_boundary.specs.OneNumber.{refusalUnit, burnUnit, oneNumber, refusal, refusalOf}
-use Rattle.c_boundary.specs.Stored.{Stored, storedBy}
+use Rattle.c_records.specs.OneNumber.{refusalUnit, burnUnit, oneNumber, refusal, refusalOf}
+use Rattle.c_records.specs.Stored.{Stored, storedBy}
 use Rattle.settings.specs.FieldsArea.{fieldsAreaSize, zeroAt}
-use Rattle.c_boundary.specs.SettingsFromC.{readFromC, writeFromC}
+use Rattle.c_records.specs.SettingsFromC.{readFromC, writeFromC}
 use Rattle.session.specs.CallAnswers.{Left}
 use Rattle.session.specs.Calling.{callOf}
 use Rattle.session.proofs.CallLaws.{refused-changes-nothing, call-size-fits}
-use Rattle.c_boundary.specs.Records.{recordSize, recordOf, sessionIn, isRecordArea}
-use Rattle.c_boundary.specs.Boundary.{startByFuse, startFromC, Called, called, storedAfter, calledFrom, calledAfter, callFromC}
+use Rattle.c_records.specs.Records.{recordSize, recordOf, sessionIn, isRecordArea}
+use Rattle.c_records.specs.Boundary.{startByFuse, startFromC, Called, called, storedAfter, calledFrom, calledAfter, callFromC}
 
 -- the top byte of eight is not 0
 abbrev Refused : ℕ → Type 0
@@ -46,9 +47,9 @@ storing-keeps told size bytes area =
     by-pick (Kept area) (not (eqb (refusalOf told) 0)) _ _ (λ y h. refl)
     (λ n. by-pick (Kept area) (not (eqb (length area) size)) _ _ (λ y h. refl) (λ m h. absurd (omega arith)))
 
-pub refused-start-keeps : (fuse : ℕ) (main settings area : List ℕ) → Kept area (startFromC fuse main settings area)
-refused-start-keeps fuse main settings area =
-    storing-keeps (startByFuse fuse main settings .answer) recordSize (recordOf (startByFuse fuse main settings .session)) area
+pub refused-start-keeps : (part : Part) (fuse : ℕ) (main settings area : List ℕ) → Kept area (startFromC part fuse main settings area)
+refused-start-keeps part fuse main settings area =
+    storing-keeps (startByFuse part fuse main settings .answer) recordSize (recordOf (startByFuse part fuse main settings .session)) area
 
 pub refused-read-keeps : (image area : List ℕ) → Kept area (readFromC image area)
 refused-read-keeps image area =
@@ -75,20 +76,20 @@ refused-write-keeps fields image =
 
 -- ---- a call
 
-module _ (area : List ℕ) (before : Memory) (wait : ℕ) (packet reply : List ℕ) where
+module _ (part : Part) (area : List ℕ) (before : Memory) (wait : ℕ) (packet reply : List ℕ) where
   -- all is as it was, if the call was refused
   abbrev AllKept : Called → Type 0
   AllKept left = Refused (left .answer) → left ≡ called (left .answer) area before reply
 
   abbrev left : Left
-  left = callOf (sessionIn area) before wait packet reply
+  left = callOf part (sessionIn area) before wait packet reply
 
   -- a call that is served answers with less
   served-is-small : (burn : Bool) → oneNumber 0 burn (left .answer .size) ≤ burnUnit + 1729
   served-is-small burn =
       by-pick (λ unit. 0 * refusalUnit + (unit + left .answer .size) ≤ burnUnit + 1729) burn burnUnit 0
-      (λ y. omega (arith, call-size-fits (sessionIn area) before wait packet reply))
-      (λ n. omega (arith, call-size-fits (sessionIn area) before wait packet reply))
+      (λ y. omega (arith, call-size-fits part (sessionIn area) before wait packet reply))
+      (λ n. omega (arith, call-size-fits part (sessionIn area) before wait packet reply))
 
   session-keeps : AllKept (calledAfter area left)
   unfolding storedAfter
@@ -96,9 +97,9 @@ module _ (area : List ℕ) (before : Memory) (wait : ℕ) (packet reply : List �
       by-pick (λ after. AllKept (calledFrom after left)) (eqb (left .answer .number) 0) _ _
       (λ y h. absurd (omega (arith, served-is-small (left .answer .burn))))
       (λ n h. ap (λ kept. called (refusal (left .answer .number)) area (kept .memory) (kept .area))
-      (refused-changes-nothing (sessionIn area) before wait packet reply (λ e. true≢false (sym (eq-eqb _ _ e) ∙ n))))
+      (refused-changes-nothing part (sessionIn area) before wait packet reply (λ e. true≢false (sym (eq-eqb _ _ e) ∙ n))))
 
-  pub refused-call-keeps-all : AllKept (callFromC area before wait packet reply)
+  pub refused-call-keeps-all : AllKept (callFromC part area before wait packet reply)
   unfolding callFromC
   refused-call-keeps-all =
       by-pick AllKept (ltb (length reply) replyLimit) _ _ (λ y h. refl)

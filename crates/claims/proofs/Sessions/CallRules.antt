@@ -10,15 +10,18 @@ use lib.Dec.{eqb}
 use lib.ListN.{length, getD}
 use Rattle.octets.specs.Choice.{pick}
 use Rattle.octets.proofs.Searching.{pick-false, pick-both, by-pick, by-test}
+use Rattle.parts.specs.declared.Part.{Part}
+use Rattle.parts.specs.Parts.{mspm0, Sound}
+use Rattle.parts.proofs.PartLaws.{mspm0-is-sound}
 use Rattle.line.specs.Codes.{acknowledged, unlock, replyLimit}
 use Rattle.line.specs.Packet.{passwordIn}
 use Rattle.line.specs.declared.Command.the-variants.{Unlock}
-use Rattle.line.specs.Acknowledgement.{isRate, acknowledgement}
+use Rattle.line.specs.Acknowledgement.{acknowledgement}
 use Rattle.line.specs.Commands.{commandOf}
 use Rattle.line.specs.Replies.{replyBytes, sentOf}
 use Rattle.line.proofs.PacketLaws.{unlock-is-password}
 use Rattle.session_state.specs.declared.Phase.the-variants as phase
-use Rattle.session_state.specs.Phases.{atStart, mostWrong, isUnlocked, isValid}
+use Rattle.session_state.specs.Phases.{mostWrong, isUnlocked, isValid}
 use Rattle.session_state.specs.Waits.{passTime}
 use Rattle.session_state.proofs.PhaseLaws.{valid-by-parts, start-is-valid}
 use Rattle.session_state.proofs.WaitLaws.{long-wait-is-heard}
@@ -52,166 +55,185 @@ use Rattle.octets.proofs.AlikeLaws.{same-are-equal}
 use Rattle.session.proofs.RecordLaws.{record-by-clauses, clauses-make-record}
 use Rattle.claims.specs.TwoBoards.{Carries}
 
--- the comparison finds the password only in a packet that carries it
-pub not-found : (packet password : List ℕ) → (Carries packet password → ⊥) → acknowledgement packet ≡ acknowledged → commandOf packet ≡ Unlock
-    → areSame password (passwordIn packet) ≡ false
-not-found packet password stranger fine asked =
-    by-test (areSame password (passwordIn packet))
-    (λ y. absurd
-    (stranger
-    (record {
-      acknowledged = fine;
-      core = unlock-is-password packet fine asked ∙ ap (λ (bytes : List ℕ). unlock ∷ bytes) (sym (same-are-equal _ _ y));
-    })))
-    (λ n. n)
-
-module _ (session : Session) (before : Memory) (wait : ℕ) (packet area : List ℕ) where
-  abbrev after : Left
-  after = callOf session before wait packet area
-
-  -- a valid record, beside the images that are lent
-  abbrev isValidRecord : Type 0
-  isValidRecord = isRecord session (length (before .main)) (length (before .settings)) ≡ true
-
-  -- both images keep their lengths
-  pub call-keeps-lengths : (length (after .memory .main) ≡ length (before .main)) × (length (after .memory .settings) ≡ length (before .settings))
-  unfolding serveOf
-  call-keeps-lengths =
-      every-call session before wait packet area (λ left. (length (left .memory .main) ≡ length (before .main)) × (length (left .memory .settings) ≡ length (before .settings)))
-      (λ number. (refl, refl))
-      (act-keeps-lengths (boardOf session) before _ packet (judgement session wait packet .effect))
-
-  -- a valid record is served, where there is room for a reply
-  pub valid-is-served : isValidRecord → replyLimit ≤ length area → after ≡ serveOf session before wait packet area
-  unfolding callOf
-  valid-is-served valid room =
-      pick-false _ _ (le-ltb (length area) replyLimit room) ∙ pick-false _ _ (ap not valid)
-
-  -- the record that a call gives back is valid again: no sequence of calls leads to a refusal 10
-  pub valid-stays-valid : isValidRecord → isRecord (after .session) (length (after .memory .main)) (length (after .memory .settings)) ≡ true
-  unfolding serveOf
-  valid-stays-valid valid =
-      every-call session before wait packet area (λ left. isRecord (left .session) (length (left .memory .main)) (length (left .memory .settings)) ≡ true)
-      (λ number. valid)
-      (let v = record-by-clauses session _ _ valid in
-      let kept = act-keeps-lengths (boardOf session) before _ packet (judgement session wait packet .effect) in
-      clauses-make-record _ _ _
+module _ (part : Part) where
+  -- the comparison finds the password only in a packet that carries it
+  pub not-found : (packet password : List ℕ) → (Carries part packet password → ⊥) → acknowledgement (part .«last_rate») packet ≡ acknowledged → commandOf packet ≡ Unlock
+      → areSame password (passwordIn packet) ≡ false
+  not-found packet password stranger fine asked =
+      by-test (areSame password (passwordIn packet))
+      (λ y. absurd
+      (stranger
       (record {
-        standing = judge-keeps-valid (session .standing) _ wait packet _ (v .standing);
-        values = v .values;
-        mainSize = v .mainSize;
-        settings = kept .1 ∙ v .settings;
-        main = kept .0 ∙ v .main;
-      }))
+        acknowledged = fine;
+        core = unlock-is-password (part .«last_rate») packet fine asked ∙ ap (λ (bytes : List ℕ). unlock ∷ bytes) (sym (same-are-equal _ _ y));
+      })))
+      (λ n. n)
 
-  -- 01, Commands: "count up by one to at most 3"
-  pub wrong-count-is-at-most-3 : isValidRecord → after .session .standing .wrong ≤ mostWrong
-  wrong-count-is-at-most-3 valid =
-      valid-by-parts _ (record-by-clauses _ _ _ (valid-stays-valid valid) .standing) .wrong
+  module _ (session : Session) (before : Memory) (wait : ℕ) (packet area : List ℕ) where
+    abbrev after : Left
+    after = callOf part session before wait packet area
 
-  -- the wrong count falls only by a packet that carries the session's password
-  pub wrong-count-falls-by-password : isValidRecord → (Carries packet (session .settings .password) → ⊥)
-      → session .standing .wrong ≤ after .session .standing .wrong
-  unfolding serveOf
-  wrong-count-falls-by-password valid stranger =
-      let alert = session .settings .shown .alert in
-      every-call session before wait packet area (λ left. session .standing .wrong ≤ left .session .standing .wrong) (λ number. omega arith)
-      (subst (λ (judged : Judged). session .standing .wrong ≤ judged .standing .wrong)
-      (sym (only-unlock-is-compared alert _ packet (not-found packet (session .settings .password) stranger) (session .standing) wait))
-      (wrong-count-rises (session .standing) alert wait packet false (record-by-clauses session _ _ valid .standing) refl))
+    -- a valid record, beside the images that are lent
+    abbrev isValidRecord : Type 0
+    isValidRecord = isRecord part session (length (before .main)) (length (before .settings)) ≡ true
 
-  -- 01, Phases and waits: "With waits of 2,000 or more, no packet of the command phase is ever dropped."
-  pub long-wait-drops-nothing : (unlocked : Bool) (sleep : ℕ) → isValidRecord → session .standing .phase ≡ phase.Command unlocked sleep → 2000 ≤ wait
-      → passTime (session .standing) wait .heard ≡ true
-  long-wait-drops-nothing unlocked sleep valid phase long =
-      long-wait-is-heard (session .standing) wait unlocked sleep (record-by-clauses session _ _ valid .standing) phase long
+    -- both images keep their lengths
+    pub call-keeps-lengths : (length (after .memory .main) ≡ length (before .main)) × (length (after .memory .settings) ≡ length (before .settings))
+    unfolding serveOf
+    call-keeps-lengths =
+        every-call part session before wait packet area (λ left. (length (left .memory .main) ≡ length (before .main)) × (length (left .memory .settings) ≡ length (before .settings)))
+        (λ number. (refl, refl))
+        (act-keeps-lengths (boardOf part session) before _ packet (judgement (part .«last_rate») session wait packet .effect))
 
-  -- ---- what is decided of the packet is planned, and then done
+    -- a valid record is served, where there is room for a reply
+    pub valid-is-served : isValidRecord → replyLimit ≤ length area → after ≡ serveOf part session before wait packet area
+    unfolding callOf
+    valid-is-served valid room =
+        pick-false _ _ (le-ltb (length area) replyLimit room) ∙ pick-false _ _ (ap not valid)
 
-  abbrev effect : Effect
-  effect = judgement session wait packet .effect
+    -- the record that a call gives back is valid again: no sequence of calls leads to a refusal 10
+    pub valid-stays-valid : Sound part → isValidRecord → isRecord part (after .session) (length (after .memory .main)) (length (after .memory .settings)) ≡ true
+    unfolding serveOf
+    valid-stays-valid sound valid =
+        every-call part session before wait packet area (λ left. isRecord part (left .session) (length (left .memory .main)) (length (left .memory .settings)) ≡ true)
+        (λ number. valid)
+        (let v = record-by-clauses part session _ _ valid in
+        let kept = act-keeps-lengths (boardOf part session) before _ packet (judgement (part .«last_rate») session wait packet .effect) in
+        clauses-make-record part _ _ _
+        (record {
+          standing = judge-keeps-valid (part .«last_rate») (session .standing) _ wait packet _ (sound .start) (v .standing);
+          values = v .values;
+          mainSize = v .mainSize;
+          settings = kept .1 ∙ v .settings;
+          main = kept .0 ∙ v .main;
+        }))
 
-  abbrev plans : Planned
-  plans = intent session packet before effect
+    -- 01, Commands: "count up by one to at most 3"
+    pub wrong-count-is-at-most-3 : Sound part → isValidRecord → after .session .standing .wrong ≤ mostWrong
+    wrong-count-is-at-most-3 sound valid =
+        valid-by-parts (part .«last_rate») _ (record-by-clauses part _ _ _ (valid-stays-valid sound valid) .standing) .wrong
 
-  -- no reply depends on memory after the order: written before it or after it, what is sent is the same
-  pub answer-needs-no-order : answerOf (plans .reply) (plans .place) (plans .count) packet (deed session packet before effect .memory) area
-      ≡ answerOf (plans .reply) (plans .place) (plans .count) packet before area
-  unfolding answerOf
-  answer-needs-no-order =
-      ap (λ (beside : List ℕ). sentOf (replyBytes (hushed packet (plans .reply)) beside) area)
-      (bytes-need-no-order (session .settings .shown) (session .settings .protection) packet before (session .«main_size») (carriesReset session packet) effect)
+    -- the wrong count falls only by a packet that carries the session's password
+    pub wrong-count-falls-by-password : isValidRecord → (Carries part packet (session .settings .password) → ⊥)
+        → session .standing .wrong ≤ after .session .standing .wrong
+    unfolding serveOf
+    wrong-count-falls-by-password valid stranger =
+        let alert = session .settings .shown .alert in
+        every-call part session before wait packet area (λ left. session .standing .wrong ≤ left .session .standing .wrong) (λ number. omega arith)
+        (subst (λ (judged : Judged). session .standing .wrong ≤ judged .standing .wrong)
+        (sym (only-unlock-is-compared (part .«last_rate») alert _ packet (not-found packet (session .settings .password) stranger) (session .standing) wait))
+        (wrong-count-rises (part .«last_rate») (session .standing) alert wait packet false (record-by-clauses part session _ _ valid .standing) refl))
 
-  -- a locked session orders nothing to be done to memory, or what the alert's reset does
-  pub locked-session-orders : isUnlocked (session .standing .phase) ≡ false → plans .order ≡ pick (isStrike effect) EraseBoth Keep
-  locked-session-orders shut =
-      locked-orders (session .«main_size») (session .settings .shown) (carriesReset session packet) before effect
-      (locked-performs-nothing (session .standing) (session .settings .shown .alert) wait packet _ shut)
+    -- 01, Phases and waits: "With waits of 2,000 or more, no packet of the command phase is ever dropped."
+    pub long-wait-drops-nothing : (unlocked : Bool) (sleep : ℕ) → isValidRecord → session .standing .phase ≡ phase.Command unlocked sleep → 2000 ≤ wait
+        → passTime (session .standing) wait .heard ≡ true
+    long-wait-drops-nothing unlocked sleep valid phase long =
+        long-wait-is-heard (part .«last_rate») (session .standing) wait unlocked sleep (record-by-clauses part session _ _ valid .standing) phase long
 
--- ---- start
+    -- ---- what is decided of the packet is planned, and then done
 
-blank-is-allowed : isAllowed (blankSettings .shown) ≡ true
-unfolding isAllowed pick
-blank-is-allowed = refl
+    abbrev effect : Effect
+    effect = judgement (part .«last_rate») session wait packet .effect
 
-module _ (image : List ℕ) where
-  -- what an accepted image promises
-  abbrev Promise : ReadTold → Type 0
-  Promise told = told .number ≡ 0 → (isAllowed (told .settings .shown) ≡ true) × (length image ≡ imageSize)
+    abbrev plans : Planned
+    plans = intent part session packet before effect
 
-  written-promises : length image ≡ imageSize → Promise (readWritten form1 image)
-  unfolding readWritten settingsIn valueNotAllowed
-  written-promises size =
-      by-pick Promise (checksumDiffers image) _ _ (λ y e. absurd (omega arith))
-      (λ n. by-pick Promise (formUnknown form1 image) _ _ (λ y e. absurd (omega arith))
-      (λ n. by-pick Promise (not (eqb (differingEntry form1 image) 0)) _ _ (λ y e. absurd (omega arith))
-      (λ n. by-pick Promise (fillerDiffers form1 image) _ _ (λ y e. absurd (omega arith))
-      (λ n. by-pick Promise (not (pick (isAllowed (shownIn form1 image)) (eqb (getD (bodyIn form1 3 image) 5 0) 0) false)) _ _ (λ y e. absurd (omega arith))
-      (λ n e. (pick-both _ _ (not-false _ n) .0, size))))))
+    -- no reply depends on memory after the order: written before it or after it, what is sent is the same
+    pub answer-needs-no-order : answerOf (plans .reply) (plans .place) (plans .count) packet (deed part session packet before effect .memory) area
+        ≡ answerOf (plans .reply) (plans .place) (plans .count) packet before area
+    unfolding answerOf
+    answer-needs-no-order =
+        ap (λ (beside : List ℕ). sentOf (replyBytes (hushed packet (plans .reply)) beside) area)
+        (bytes-need-no-order part (session .settings .shown) (session .settings .protection) packet before (session .«main_size») (carriesReset session packet) effect)
 
-  accepted-is-allowed : Promise (readOf form1 image)
-  unfolding readOf
-  accepted-is-allowed =
-      by-pick Promise (not (eqb (length image) imageSize)) _ _ (λ y e. absurd (omega arith))
-      (λ n. let size = eqb-true _ _ (not-false _ n) in
-      by-pick Promise (isBlank image) _ _ (λ y e. (blank-is-allowed, size)) (λ n. written-promises size))
+    -- a locked session orders nothing to be done to memory, or what the alert's reset does
+    pub locked-session-orders : isUnlocked (session .standing .phase) ≡ false → plans .order ≡ pick (isStrike effect) EraseBoth Keep
+    locked-session-orders shut =
+        locked-orders part (session .«main_size») (session .settings .shown) (carriesReset session packet) before effect
+        (locked-performs-nothing (part .«last_rate») (session .standing) (session .settings .shown .alert) wait packet _ shut)
 
--- what stands beside a refused start is refused by every call
-pub no-session-is-refused : (main settings : ℕ) → isRecord noSession main settings ≡ false
-unfolding isRecord isValid isRate atStart isAllowed pick
-no-session-is-refused main settings = refl
+  -- ---- start
 
--- what start tells where it is not refused
-abbrev pub startsAs : Session → StartTold
-startsAs session = record { answer = numbered 0 0; session = session }
+  blank-is-allowed : isAllowed (blankSettings .shown) ≡ true
+  unfolding isAllowed pick
+  blank-is-allowed = refl
 
-module _ (fuse : Bool) (main settings : List ℕ) where
-  -- what holds of the session of the settings that are read holds wherever a session is started
-  pub every-start : (P : StartTold → Type 0)
-      → (isMainSize (length main) ≡ true → readOf form1 settings .number ≡ 0 → P (startsAs (sessionOf (length main) (readOf form1 settings .settings))))
-      → startOf fuse main settings .answer .number ≡ 0 → P (startOf fuse main settings)
-  unfolding startOf startRead
-  every-start P holds =
-      by-pick Promised fuse _ _ (λ y e. absurd (omega arith))
-      (λ n. by-pick Promised (not (isMainSize (length main))) _ _ (λ y e. absurd (omega arith))
-      (λ n. by-pick Promised (eqb (readOf form1 settings .number) 0) _ _
-      (λ y e. holds (not-false _ n) (eqb-true _ _ y))
-      (λ n e. absurd (true≢false (sym (eq-eqb _ _ e) ∙ n)))))
-    where
-      Promised : StartTold → Type 0
-      Promised told = told .answer .number ≡ 0 → P told
+  module _ (image : List ℕ) where
+    -- what an accepted image promises
+    abbrev Promise : ReadTold → Type 0
+    Promise told = told .number ≡ 0 → (isAllowed (told .settings .shown) ≡ true) × (length image ≡ imageSize)
 
-  -- a session that was started is valid beside the images it was started with
-  pub started-is-valid : startOf fuse main settings .answer .number ≡ 0
-      → isRecord (startOf fuse main settings .session) (length main) (length settings) ≡ true
-  started-is-valid =
-      every-start (λ told. isRecord (told .session) (length main) (length settings) ≡ true)
-      (λ size read.
-      let allowed = accepted-is-allowed settings read in
-      clauses-make-record _ _ _
-      (record { standing = start-is-valid; values = allowed .0; mainSize = size; settings = allowed .1; main = refl }))
+    written-promises : length image ≡ imageSize → Promise (readWritten form1 image)
+    unfolding readWritten settingsIn valueNotAllowed
+    written-promises size =
+        by-pick Promise (checksumDiffers image) _ _ (λ y e. absurd (omega arith))
+        (λ n. by-pick Promise (formUnknown form1 image) _ _ (λ y e. absurd (omega arith))
+        (λ n. by-pick Promise (not (eqb (differingEntry form1 image) 0)) _ _ (λ y e. absurd (omega arith))
+        (λ n. by-pick Promise (fillerDiffers form1 image) _ _ (λ y e. absurd (omega arith))
+        (λ n. by-pick Promise (not (pick (isAllowed (shownIn form1 image)) (eqb (getD (bodyIn form1 3 image) 5 0) 0) false)) _ _ (λ y e. absurd (omega arith))
+        (λ n e. (pick-both _ _ (not-false _ n) .0, size))))))
 
-  -- 01, Phases and waits: "Settings are taken at start"
-  pub started-session : startOf fuse main settings .answer .number ≡ 0
-      → startOf fuse main settings .session ≡ sessionOf (length main) (readOf form1 settings .settings)
-  started-session = every-start (λ told. told .session ≡ sessionOf (length main) (readOf form1 settings .settings)) (λ size read. refl)
+    accepted-is-allowed : Promise (readOf form1 image)
+    unfolding readOf
+    accepted-is-allowed =
+        by-pick Promise (not (eqb (length image) imageSize)) _ _ (λ y e. absurd (omega arith))
+        (λ n. let size = eqb-true _ _ (not-false _ n) in
+        by-pick Promise (isBlank image) _ _ (λ y e. (blank-is-allowed, size)) (λ n. written-promises size))
+
+  -- what stands beside a refused start is refused by every call
+  pub no-session-is-refused : (main settings : ℕ) → isRecord part noSession main settings ≡ false
+  unfolding isRecord isAllowed pick
+  no-session-is-refused main settings =
+      by-pick (λ test. test ≡ false) (isValid (part .«last_rate») (noSession .standing)) _ _ (λ y. refl) (λ n. refl)
+
+  -- what start tells where it is not refused
+  abbrev pub startsAs : Session → StartTold
+  startsAs session = record { answer = numbered 0 0; session = session }
+
+  module _ (fuse : Bool) (main settings : List ℕ) where
+    -- what holds of the session of the settings that are read holds wherever a session is started
+    pub every-start : (P : StartTold → Type 0)
+        → (isMainSize part (length main) ≡ true → readOf form1 settings .number ≡ 0 → P (startsAs (sessionOf (length main) (readOf form1 settings .settings))))
+        → startOf part fuse main settings .answer .number ≡ 0 → P (startOf part fuse main settings)
+    unfolding startOf startRead
+    every-start P holds =
+        by-pick Promised fuse _ _ (λ y e. absurd (omega arith))
+        (λ n. by-pick Promised (not (isMainSize part (length main))) _ _ (λ y e. absurd (omega arith))
+        (λ n. by-pick Promised (eqb (readOf form1 settings .number) 0) _ _
+        (λ y e. holds (not-false _ n) (eqb-true _ _ y))
+        (λ n e. absurd (true≢false (sym (eq-eqb _ _ e) ∙ n)))))
+      where
+        Promised : StartTold → Type 0
+        Promised told = told .answer .number ≡ 0 → P told
+
+    -- a session that was started is valid beside the images it was started with
+    pub started-is-valid : Sound part → startOf part fuse main settings .answer .number ≡ 0
+        → isRecord part (startOf part fuse main settings .session) (length main) (length settings) ≡ true
+    started-is-valid sound =
+        every-start (λ told. isRecord part (told .session) (length main) (length settings) ≡ true)
+        (λ size read.
+        let allowed = accepted-is-allowed settings read in
+        clauses-make-record part _ _ _
+        (record { standing = start-is-valid (part .«last_rate») (sound .start); values = allowed .0; mainSize = size; settings = allowed .1; main = refl }))
+
+    -- 01, Phases and waits: "Settings are taken at start"
+    pub started-session : startOf part fuse main settings .answer .number ≡ 0
+        → startOf part fuse main settings .session ≡ sessionOf (length main) (readOf form1 settings .settings)
+    started-session = every-start (λ told. told .session ≡ sessionOf (length main) (readOf form1 settings .settings)) (λ size read. refl)
+
+-- ---- the MSPM0
+
+pub mspm0-valid-stays-valid : (session : Session) (before : Memory) (wait : ℕ) (packet area : List ℕ)
+    → isRecord mspm0 session (length (before .main)) (length (before .settings)) ≡ true
+    → isRecord mspm0 (callOf mspm0 session before wait packet area .session)
+    (length (callOf mspm0 session before wait packet area .memory .main)) (length (callOf mspm0 session before wait packet area .memory .settings)) ≡ true
+mspm0-valid-stays-valid session before wait packet area = valid-stays-valid mspm0 session before wait packet area mspm0-is-sound
+
+pub mspm0-wrong-count-is-at-most-3 : (session : Session) (before : Memory) (wait : ℕ) (packet area : List ℕ)
+    → isRecord mspm0 session (length (before .main)) (length (before .settings)) ≡ true
+    → callOf mspm0 session before wait packet area .session .standing .wrong ≤ mostWrong
+mspm0-wrong-count-is-at-most-3 session before wait packet area = wrong-count-is-at-most-3 mspm0 session before wait packet area mspm0-is-sound
+
+pub mspm0-started-is-valid : (fuse : Bool) (main settings : List ℕ) → startOf mspm0 fuse main settings .answer .number ≡ 0
+    → isRecord mspm0 (startOf mspm0 fuse main settings .session) (length main) (length settings) ≡ true
+mspm0-started-is-valid fuse main settings = started-is-valid mspm0 fuse main settings mspm0-is-sound

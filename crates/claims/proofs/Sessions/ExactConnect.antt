@@ -42,24 +42,24 @@ unfolding cases
 connect-sum = ap (λ (sums : List (List ℕ)). getD sums 0 []) every-marked-case-holds
 
 -- it is acknowledged, and read as a Connect
-pub exact-connect-is-read : (acknowledgement exactConnect ≡ codes.acknowledged) × (commandOf exactConnect ≡ command.Connect)
+pub exact-connect-is-read : (lastRate : ℕ) → (acknowledgement lastRate exactConnect ≡ codes.acknowledged) × (commandOf exactConnect ≡ command.Connect)
 unfolding acknowledgement checksumDiffers rateUnknown commandOf codes.isOneOf lengthFits openOf pick numberOf checksumOf checksumFrom byteOn bitsOn bitOn
-exact-connect-is-read = (refl, refl)
+exact-connect-is-read lastRate = (refl, refl)
 
-module _ (packet : List ℕ) (each : (k : ℕ) → getD packet k 0 < 256) (fine : acknowledgement packet ≡ codes.acknowledged)
+module _ (lastRate : ℕ) (packet : List ℕ) (each : (k : ℕ) → getD packet k 0 < 256) (fine : acknowledgement lastRate packet ≡ codes.acknowledged)
     (asked : commandOf packet ≡ command.Connect) where
   -- its core is the command byte alone, so that it has eight bytes
   reads : (codeIn packet ≡ codes.connect) × (lengthIn packet ≡ 1)
   reads = subst (Stands packet) asked (read-stands packet)
 
   eight : length packet ≡ 8
-  eight = acknowledged-is-framed packet fine .size ∙ ap (λ (count : ℕ). count + 7) (reads .1)
+  eight = acknowledged-is-framed lastRate packet fine .size ∙ ap (λ (count : ℕ). count + 7) (reads .1)
 
   byte-there : (at : ℕ) → at < 8 → part at 1 packet ≡ getD packet at 0 ∷ []
   byte-there at h = ap (take 1) (drop-cons packet at 0 (omega (arith, eight)))
 
   header-there : part 0 1 packet ≡ 0x80 ∷ []
-  header-there = byte-there 0 (omega arith) ∙ ap (λ (byte : ℕ). byte ∷ []) (acknowledged-is-framed packet fine .header)
+  header-there = byte-there 0 (omega arith) ∙ ap (λ (byte : ℕ). byte ∷ []) (acknowledged-is-framed lastRate packet fine .header)
 
   length-there : part 1 2 packet ≡ 0x01 ∷ 0x00 ∷ []
   unfolding bytesOf
@@ -72,7 +72,7 @@ module _ (packet : List ℕ) (each : (k : ℕ) → getD packet k 0 < 256) (fine 
   sum-there =
       let core : coreIn packet ≡ 0x12 ∷ [] = ap (λ (count : ℕ). part 3 count packet) (reads .1) ∙ core-there in
       let sum : numberAt 4 4 packet ≡ checksumOf (0x12 ∷ []) =
-      ap (λ (count : ℕ). numberAt (3 + count) 4 packet) (sym (reads .1)) ∙ acknowledged-is-framed packet fine .checksum ∙ ap checksumOf core in
+      ap (λ (count : ℕ). numberAt (3 + count) 4 packet) (sym (reads .1)) ∙ acknowledged-is-framed lastRate packet fine .checksum ∙ ap checksumOf core in
       sym (number-again packet each 4 4 (omega (arith, eight))) ∙ ap (bytesOf 4) sum ∙ connect-sum
 
   in-parts : part 0 1 packet ++ (part 1 2 packet ++ (part 3 1 packet ++ part 4 4 packet)) ≡ packet
@@ -84,10 +84,10 @@ module _ (packet : List ℕ) (each : (k : ℕ) → getD packet k 0 < 256) (fine 
 
 -- ---- in detect
 
-pub exact-connect-is-answered : (standing : Standing)
-    → heardInDetect standing exactConnect ≡ says (movedTo standing (phase.Command false 0) 0) (Acknowledged codes.acknowledged)
+pub exact-connect-is-answered : (lastRate : ℕ) (standing : Standing)
+    → heardInDetect lastRate standing exactConnect ≡ says (movedTo standing (phase.Command false 0) 0) (Acknowledged codes.acknowledged)
 unfolding heardInDetect pick
-exact-connect-is-answered standing = rw (exact-connect-is-read .0, exact-connect-is-read .1)
+exact-connect-is-answered lastRate standing = rw (exact-connect-is-read lastRate .0, exact-connect-is-read lastRate .1)
 
 -- another command is not answered
 other-is-silent : (standing : Standing) (asked : Command) → (asked ≡ command.Connect → ⊥) → detected standing asked ≡ silently standing
@@ -100,10 +100,10 @@ other-is-silent standing (command.Rate id) other = refl
 other-is-silent standing command.WrongLength other = refl
 other-is-silent standing command.Unknown other = refl
 
-pub others-get-no-reply : (standing : Standing) (packet : List ℕ) → ((k : ℕ) → getD packet k 0 < 256) → (packet ≡ exactConnect → ⊥)
-    → heardInDetect standing packet ≡ silently standing
+pub others-get-no-reply : (lastRate : ℕ) (standing : Standing) (packet : List ℕ) → ((k : ℕ) → getD packet k 0 < 256) → (packet ≡ exactConnect → ⊥)
+    → heardInDetect lastRate standing packet ≡ silently standing
 unfolding heardInDetect
-others-get-no-reply standing packet each other =
-    by-pick (λ (judged : Judged). judged ≡ silently standing) (eqb (acknowledgement packet) codes.acknowledged) _ _
-    (λ fine. other-is-silent standing (commandOf packet) (λ asked. other (connect-is-exact packet each (eqb-true _ _ fine) asked)))
+others-get-no-reply lastRate standing packet each other =
+    by-pick (λ (judged : Judged). judged ≡ silently standing) (eqb (acknowledgement lastRate packet) codes.acknowledged) _ _
+    (λ fine. other-is-silent standing (commandOf packet) (λ asked. other (connect-is-exact lastRate packet each (eqb-true _ _ fine) asked)))
     (λ damaged. refl)

@@ -9,6 +9,7 @@ use lib.Dec.{ltb, eqb}
 use lib.ListN.{length, getD}
 use Rattle.octets.specs.Choice.{pick}
 use Rattle.octets.proofs.Searching.{by-pick}
+use Rattle.parts.specs.declared.Part.{Part}
 use Rattle.line.specs.Codes.{replyLimit, isOneOf}
 use Rattle.settings.specs.declared.Settings.{Settings}
 use Rattle.settings.specs.Values.{isAllowed}
@@ -29,12 +30,12 @@ use Rattle.session.specs.CallAnswers.{Left}
 use Rattle.session.specs.Records.{isRecord}
 use Rattle.session.specs.Calling.{serveOf, callOf}
 use Rattle.session.proofs.CallLaws.{call-size-fits}
-use Rattle.c_boundary.specs.OneNumber.{refusalUnit, burnUnit, oneNumber, refusal, refusalOf}
-use Rattle.c_boundary.specs.Stored.{Stored, storedBy}
+use Rattle.c_records.specs.OneNumber.{refusalUnit, burnUnit, oneNumber, refusal, refusalOf}
+use Rattle.c_records.specs.Stored.{Stored, storedBy}
 use Rattle.settings.specs.FieldsArea.{fieldsAreaSize, zeroAt}
-use Rattle.c_boundary.specs.SettingsFromC.{readFromC, writeFromC}
-use Rattle.c_boundary.specs.Records.{recordSize, recordOf, sessionIn, isRecordArea}
-use Rattle.c_boundary.specs.Boundary.{startByFuse, startFromC, Called, storedAfter, calledFrom, callFromC}
+use Rattle.c_records.specs.SettingsFromC.{readFromC, writeFromC}
+use Rattle.c_records.specs.Records.{recordSize, recordOf, sessionIn, isRecordArea}
+use Rattle.c_records.specs.Boundary.{startByFuse, startFromC, Called, storedAfter, calledFrom, callFromC}
 
 -- ---- the numbers
 
@@ -92,29 +93,29 @@ write-is-answered settings area =
     Well : WriteLeft → Type 0
     Well left = IsOneOf writeNumbers (left .number)
 
-module _ (fuse : Bool) (main settings : List ℕ) where
+module _ (part : Part) (fuse : Bool) (main settings : List ℕ) where
   abbrev StartWell : StartTold → Type 0
   StartWell told = Told startNumbers (told .answer .number) (told .answer .entry)
 
-  pub start-is-answered : StartWell (startOf fuse main settings)
+  pub start-is-answered : StartWell (startOf part fuse main settings)
   unfolding startOf startRead isOneOf pick
   start-is-answered =
       let read = read-is-answered settings in
       let number = readOf form1 settings .number in
       by-pick StartWell fuse _ _ (λ y. (refl, omega arith))
-      (λ n. by-pick StartWell (not (isMainSize (length main))) _ _ (λ y. (refl, omega arith))
+      (λ n. by-pick StartWell (not (isMainSize part (length main))) _ _ (λ y. (refl, omega arith))
       (λ n. by-pick StartWell (eqb (readOf form1 settings .number) 0) _ _ (λ y. (refl, omega arith))
       (λ n. (one-of-more 1 (2 ∷ readNumbers) number (one-of-more 2 readNumbers number (read .0)), read .1))))
 
-module _ (session : Session) (before : Memory) (wait : ℕ) (packet area : List ℕ) where
+module _ (part : Part) (session : Session) (before : Memory) (wait : ℕ) (packet area : List ℕ) where
   abbrev CallWell : Left → Type 0
   CallWell left = IsOneOf callNumbers (left .answer .number)
 
-  pub call-is-answered : CallWell (callOf session before wait packet area)
+  pub call-is-answered : CallWell (callOf part session before wait packet area)
   unfolding callOf serveOf isOneOf pick
   call-is-answered =
       by-pick CallWell (ltb (length area) replyLimit) _ _ (λ y. refl)
-      (λ n. by-pick CallWell (not (isRecord session (length (before .main)) (length (before .settings)))) _ _ (λ y. refl) (λ n. refl))
+      (λ n. by-pick CallWell (not (isRecord part session (length (before .main)) (length (before .settings)))) _ _ (λ y. refl) (λ n. refl))
 
 -- ---- from C
 
@@ -141,12 +142,12 @@ storing-is-answered numbers told size bytes area zero well =
     Well : Stored → Type 0
     Well left = IsOneOf (10 ∷ numbers) (refusalIn (left .answer))
 
-pub start-is-answered-from-C : (fuse : ℕ) (main settings area : List ℕ)
-    → IsOneOf (10 ∷ startNumbers) (refusalIn (startFromC fuse main settings area .answer))
+pub start-is-answered-from-C : (part : Part) (fuse : ℕ) (main settings area : List ℕ)
+    → IsOneOf (10 ∷ startNumbers) (refusalIn (startFromC part fuse main settings area .answer))
 unfolding isOneOf pick
-start-is-answered-from-C fuse main settings area =
-    storing-is-answered startNumbers (startByFuse fuse main settings .answer) recordSize (recordOf (startByFuse fuse main settings .session)) area refl
-    (start-is-answered (not (eqb fuse 0)) main settings)
+start-is-answered-from-C part fuse main settings area =
+    storing-is-answered startNumbers (startByFuse part fuse main settings .answer) recordSize (recordOf (startByFuse part fuse main settings .session)) area refl
+    (start-is-answered part (not (eqb fuse 0)) main settings)
 
 pub read-is-answered-from-C : (image area : List ℕ) → IsOneOf (10 ∷ readNumbers) (refusalIn (readFromC image area .answer))
 unfolding isOneOf pick
@@ -169,9 +170,9 @@ write-is-answered-from-C fields image =
     written : ℕ
     written = writeOf form1 (fieldsRead form1 fields) image .number
 
-module _ (area : List ℕ) (before : Memory) (wait : ℕ) (packet reply : List ℕ) where
+module _ (part : Part) (area : List ℕ) (before : Memory) (wait : ℕ) (packet reply : List ℕ) where
   abbrev left : Left
-  left = callOf (sessionIn area) before wait packet reply
+  left = callOf part (sessionIn area) before wait packet reply
 
   abbrev CalledWell : Called → Type 0
   CalledWell after = IsOneOf callNumbers (refusalIn (after .answer))
@@ -180,14 +181,14 @@ module _ (area : List ℕ) (before : Memory) (wait : ℕ) (packet reply : List �
   served-says-0 : (burn : Bool) → refusalIn (oneNumber 0 burn (left .answer .size)) ≡ 0
   served-says-0 burn =
       by-pick (λ unit. (0 * refusalUnit + (unit + left .answer .size)) / refusalUnit ≡ 0) burn burnUnit 0
-      (λ y. omega (arith, call-size-fits (sessionIn area) before wait packet reply))
-      (λ n. omega (arith, call-size-fits (sessionIn area) before wait packet reply))
+      (λ y. omega (arith, call-size-fits part (sessionIn area) before wait packet reply))
+      (λ n. omega (arith, call-size-fits part (sessionIn area) before wait packet reply))
 
-  pub call-is-answered-from-C : CalledWell (callFromC area before wait packet reply)
+  pub call-is-answered-from-C : CalledWell (callFromC part area before wait packet reply)
   unfolding callFromC storedAfter isOneOf pick
   call-is-answered-from-C =
       by-pick CalledWell (ltb (length reply) replyLimit) _ _ (λ y. refl)
       (λ n. by-pick CalledWell (not (isRecordArea area)) _ _ (λ y. refl)
       (λ n. by-pick (λ after. CalledWell (calledFrom after left)) (eqb (left .answer .number) 0) _ _
       (λ y. subst (IsOneOf callNumbers) (sym (served-says-0 (left .answer .burn))) refl)
-      (λ n. subst (IsOneOf callNumbers) (sym (refusal-is (numbered (left .answer .number) 0) (omega arith))) (call-is-answered (sessionIn area) before wait packet reply))))
+      (λ n. subst (IsOneOf callNumbers) (sym (refusal-is (numbered (left .answer .number) 0) (omega arith))) (call-is-answered part (sessionIn area) before wait packet reply))))

@@ -1,6 +1,6 @@
 -- 01, The loader and its edges: "From C the record is a byte area". Decoding what was encoded gives the session, and encoding what was
--- decoded gives the bytes (`encode-after-decode`, which `c_boundary` needs itself and has among its own laws).
--- `recordOf` is what `c_boundary` is proved to store, `sessionIn` and `isRecordArea` what it is proved to read.
+-- decoded gives the bytes (`encode-after-decode`, which `c_records` needs itself and has among its own laws).
+-- `recordOf` is what `c_records` is proved to store, `sessionIn` and `isRecordArea` what it is proved to read.
 use mathlib.Core.Path.{_≡_, refl, sym, ap, _∙_}
 use mathlib.Core.Bool.{true, false}
 use mathlib.Core.List.{List}
@@ -20,8 +20,8 @@ use Rattle.settings.specs.Bodies.{bodiesOf}
 use Rattle.settings.specs.Fields as fields
 use Rattle.session.specs.declared.Session.{Session}
 use Rattle.settings.specs.FieldsArea.{fieldsAreaSize, zeroAt}
-use Rattle.c_boundary.specs.Records.{recordSize, fieldsAt, phaseCode, lockCode, sleepOf, recordOf, phaseIn, standingIn, sessionIn, phaseFits, isRecordArea}
-use Rattle.c_boundary.proofs.RecordAgain.{encode-after-decode}
+use Rattle.c_records.specs.Records.{recordSize, fieldsAt, phaseCode, lockCode, sleepOf, recordOf, phaseIn, standingIn, sessionIn, phaseFits, isRecordArea}
+use Rattle.c_records.proofs.RecordAgain.{encode-after-decode}
 use Rattle.claims.specs.Held.{HeldSession}
 use Rattle.claims.proofs.Settings.FieldsRule.{read-after-made, fields-size, made-unused}
 

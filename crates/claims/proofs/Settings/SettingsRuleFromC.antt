@@ -23,9 +23,9 @@ use Rattle.settings.specs.Image.{imageOf}
 use Rattle.settings.specs.Answers.{Numbered, numbered, ReadTold, WriteLeft}
 use Rattle.settings.specs.Reader.{isBlank, readOf}
 use Rattle.settings.specs.Writer.{writeOf}
-use Rattle.c_boundary.specs.OneNumber.{refusal, refusalOf}
-use Rattle.c_boundary.specs.Stored.{Stored, stored, storedBy}
-use Rattle.c_boundary.specs.SettingsFromC.{readFromC, writeFromC}
+use Rattle.c_records.specs.OneNumber.{refusal, refusalOf}
+use Rattle.c_records.specs.Stored.{Stored, stored, storedBy}
+use Rattle.c_records.specs.SettingsFromC.{readFromC, writeFromC}
 use Rattle.claims.specs.Held.{Held}
 use Rattle.claims.proofs.Settings.Written.{image-reads}
 use Rattle.claims.proofs.Settings.SettingsRule.{write-after-read}

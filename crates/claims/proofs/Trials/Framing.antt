@@ -10,6 +10,7 @@ use lib.ListN.{length, getD, take, drop, length-append}
 use Rattle.octets.specs.Number.{numberOf, bytesOf, part, numberAt}
 use Rattle.octets.proofs.Numbers.{number-of-bytes}
 use Rattle.octets.proofs.Parts.{part-there, from-next}
+use Rattle.parts.specs.Parts.{mspm0}
 use Rattle.checksum.specs.Checksum.{checksumOf}
 use Rattle.checksum.proofs.Laws.{checksum-of-fits}
 use Rattle.line.specs.Codes.{lengthLimit, acknowledged, rate}
@@ -49,9 +50,9 @@ module _ (core : List ℕ) (some : 1 ≤ length core) (small : length core ≤ l
       ∙ ap (λ (bytes : List ℕ). numberOf (take 4 bytes)) (from-next (packetOf core) 3 (length core) core sum core-from refl)
 
   -- so the packet is acknowledged, unless Rate has more to ask
-  pub framed : ((k : ℕ) → getD core k 0 < 256) → (codeIn (packetOf core) ≡ rate → ⊥) → acknowledgement (packetOf core) ≡ acknowledged
+  pub framed : ((k : ℕ) → getD core k 0 < 256) → (codeIn (packetOf core) ≡ rate → ⊥) → acknowledgement (mspm0 .«last_rate») (packetOf core) ≡ acknowledged
   framed each other =
-      framed-is-acknowledged (packetOf core)
+      framed-is-acknowledged (mspm0 .«last_rate») (packetOf core)
       (record {
         header = refl;
         size = size-there ∙ ap (λ (count : ℕ). count + 7) (sym length-there);

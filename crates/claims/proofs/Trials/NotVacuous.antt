@@ -7,6 +7,7 @@ use native.Mathlib.Omega.{arith}
 use lib.ListN.{getD, replicate}
 use Rattle.octets.specs.Choice.{pick}
 use Rattle.octets.specs.Number.{bytesOf}
+use Rattle.parts.specs.Parts.{mspm0}
 use Rattle.settings.specs.Layout.{tableOf, pairsOf}
 use Rattle.settings.specs.Image.{imageOf}
 use Rattle.line.specs.Codes.{success, passwordWrong}
@@ -16,10 +17,9 @@ use Rattle.session_state.specs.Phases.{isUnlocked}
 use Rattle.settings.specs.Values.{blankSettings}
 use Rattle.claims.specs.TwoBoards.{Images, started, AlikeBoards, WithoutPassword, replied}
 use Rattle.claims.specs.Visits.{AllWithout, visitOne}
-use Rattle.claims.specs.Trials.{blankBoard, writtenBoard, quietBoard, resetBoard, strictBoard, guardedBoard, Differ, secondFF, allFF, connects, unlocks, twoGuesses, threeGuesses, guesser, ran, toBlankPassword}
+use Rattle.claims.specs.Trials.{sectorSize, blankBoard, writtenBoard, quietBoard, resetBoard, strictBoard, guardedBoard, Differ, secondFF, allFF, connects, unlocks, twoGuesses, threeGuesses, guesser, ran, toBlankPassword}
 use Rattle.session_judge.specs.Judgement.{says}
 use Rattle.session_judge.specs.Unlocking.{afterRight, countedUp, afterWrong, asleep, triedWrong, tried}
-use Rattle.session_act.specs.Board.{sectorSize}
 use Rattle.session.specs.CallAnswers.{Left}
 use Rattle.octets.specs.Alike.{areSame}
 use Rattle.session.specs.Calling.{followed}
@@ -34,7 +34,7 @@ use Rattle.claims.proofs.Trials.SomeSessions.{room, connect-is-strange,
 abbrev quiet : Images
 quiet = quietBoard 0 0
 
-pub blank-and-quiet : AlikeBoards blankBoard quiet × Differ blankBoard quiet
+pub blank-and-quiet : AlikeBoards mspm0 blankBoard quiet × Differ blankBoard quiet
 blank-and-quiet = (blank-and-quiet-are-alike, blank-and-quiet-differ)
 
 -- ---- the alert strikes in a session without a password: all is erased that was there
@@ -47,7 +47,7 @@ module _ (guard : ℕ) (bit : guard ≤ 1) where
   abbrev other : Images
   other = resetBoard guard 0x22 0x77
 
-  connect-without : WithoutPassword one other connects
+  connect-without : WithoutPassword mspm0 one other connects
   connect-without = record {
     notOne = connect-is-strange one _ (reset-is-good guard 0x11 0x66 bit (omega arith));
     notOther = connect-is-strange other _ (reset-is-good guard 0x22 0x77 bit (omega arith));
@@ -55,7 +55,7 @@ module _ (guard : ℕ) (bit : guard ≤ 1) where
     otherRoom = room 0xFF;
   }
 
-  guess-without : WithoutPassword one other (unlocks 0x33)
+  guess-without : WithoutPassword mspm0 one other (unlocks 0x33)
   guess-without = record {
     notOne = unlock-is-strange one _ (reset-is-good guard 0x11 0x66 bit (omega arith)) 0x33 (λ e. omega arith);
     notOther = unlock-is-strange other _ (reset-is-good guard 0x22 0x77 bit (omega arith)) 0x33 (λ e. omega arith);
@@ -64,11 +64,11 @@ module _ (guard : ℕ) (bit : guard ≤ 1) where
   }
 
   -- no packet of the session carries a password
-  pub guesses-are-without : AllWithout one other threeGuesses
+  pub guesses-are-without : AllWithout mspm0 one other threeGuesses
   guesses-are-without = (connect-without, (guess-without, (guess-without, (guess-without, tt))))
 
   -- and so for a person who guesses: four calls are that session, and what they sent has no password
-  pub guesser-is-without : AllWithout one other (visitOne guesser one 4 .sent) × (visitOne guesser one 4 .board ≡ ran (started one) threeGuesses)
+  pub guesser-is-without : AllWithout mspm0 one other (visitOne mspm0 guesser one 4 .sent) × (visitOne mspm0 guesser one 4 .board ≡ ran (started mspm0 one) threeGuesses)
   guesser-is-without = ((guess-without, (guess-without, (guess-without, (connect-without, tt)))), refl)
 
 abbrev oneStrict : Images
@@ -77,15 +77,15 @@ oneStrict = strictBoard 0x11 0x66
 abbrev otherStrict : Images
 otherStrict = strictBoard 0x22 0x77
 
-pub two-strict : AlikeBoards oneStrict otherStrict × Differ oneStrict otherStrict
+pub two-strict : AlikeBoards mspm0 oneStrict otherStrict × Differ oneStrict otherStrict
 two-strict = (reset-are-alike 0 (omega arith), reset-differ 0 (omega arith))
 
 -- after two guesses all is as at the start, and after three every byte is 0xFF
-pub two-guesses-erase-nothing : (ran (started oneStrict) twoGuesses .memory ≡ oneStrict) × (ran (started otherStrict) twoGuesses .memory ≡ otherStrict)
+pub two-guesses-erase-nothing : (ran (started mspm0 oneStrict) twoGuesses .memory ≡ oneStrict) × (ran (started mspm0 otherStrict) twoGuesses .memory ≡ otherStrict)
 two-guesses-erase-nothing =
     (two-guesses-keep 0 0x11 0x66 (omega arith) (omega arith) (λ e. omega arith), two-guesses-keep 0 0x22 0x77 (omega arith) (omega arith) (λ e. omega arith))
 
-pub guesses-erase : (ran (started oneStrict) threeGuesses .memory ≡ allFF oneStrict) × (ran (started otherStrict) threeGuesses .memory ≡ allFF otherStrict)
+pub guesses-erase : (ran (started mspm0 oneStrict) threeGuesses .memory ≡ allFF oneStrict) × (ran (started mspm0 otherStrict) threeGuesses .memory ≡ allFF otherStrict)
 guesses-erase = (three-guesses-erase 0x11 0x66 (omega arith) (λ e. omega arith), three-guesses-erase 0x22 0x77 (omega arith) (λ e. omega arith))
 
 -- which they were not before
@@ -102,12 +102,12 @@ oneGuarded = guardedBoard 0x11 0x66
 abbrev otherGuarded : Images
 otherGuarded = guardedBoard 0x22 0x77
 
-pub two-guarded : AlikeBoards oneGuarded otherGuarded × Differ oneGuarded otherGuarded
+pub two-guarded : AlikeBoards mspm0 oneGuarded otherGuarded × Differ oneGuarded otherGuarded
 two-guarded = (reset-are-alike 1 (omega arith), reset-differ 1 (omega arith))
 
 -- after the same session the second sector is 0xFF, and all else is as at the start
-pub guesses-keep-protected : (ran (started oneGuarded) threeGuesses .memory ≡ secondFF oneGuarded)
-    × (ran (started otherGuarded) threeGuesses .memory ≡ secondFF otherGuarded)
+pub guesses-keep-protected : (ran (started mspm0 oneGuarded) threeGuesses .memory ≡ secondFF oneGuarded)
+    × (ran (started mspm0 otherGuarded) threeGuesses .memory ≡ secondFF otherGuarded)
 guesses-keep-protected =
     (three-guesses-keep 0x11 0x66 (omega arith) (λ e. omega arith), three-guesses-keep 0x22 0x77 (omega arith) (λ e. omega arith))
 
@@ -124,7 +124,7 @@ each-held-something password byte = (refl, refl, refl)
 -- a board once its caller was told a message
 abbrev told : Images → Standing → ℕ → Left
 told images standing code =
-    followed (sessionThen images (stood 0 0)) (later images (stood 0 0) .memory) (unlocks 0xFF .packet) (unlocks 0xFF .oneArea)
+    followed mspm0 (sessionThen images (stood 0 0)) (later mspm0 images (stood 0 0) .memory) (unlocks 0xFF .packet) (unlocks 0xFF .oneArea)
     (says standing (Message code))
 
 blank-opens : toBlankPassword blankBoard ≡ told blankBoard (afterRight (stood 0 0)) success
@@ -140,7 +140,7 @@ message-told : (images : Images) (standing : Standing) (code : ℕ) → toBlankP
     → getD (replied (toBlankPassword images)) 5 0 ≡ code
 message-told images standing code e =
     ap (λ (left : Left). getD (replied left) 5 0) e
-    ∙ message-is-sixth (sessionThen images (stood 0 0)) (later images (stood 0 0) .memory) 0xFF code standing
+    ∙ message-is-sixth (sessionThen images (stood 0 0)) (later mspm0 images (stood 0 0) .memory) 0xFF code standing
 
 -- 00 and 02 are told, and one is unlocked
 pub replies-differ : replied (toBlankPassword blankBoard) ≡ replied (toBlankPassword quiet) → ⊥

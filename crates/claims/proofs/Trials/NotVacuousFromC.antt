@@ -4,8 +4,10 @@ use mathlib.Core.List.{List}
 use Prim.Native.Nat.{ℕ, _≤_, _<_}
 use native.Mathlib.Omega.{arith}
 use lib.ListN.{length}
+use Rattle.parts.specs.Parts.{mspm0}
+use Rattle.parts.proofs.PartLaws.{mspm0-is-sound}
 use Rattle.session_judge.specs.Unlocking.{alertReset}
-use Rattle.c_boundary.specs.Records.{recordSize}
+use Rattle.c_records.specs.Records.{recordSize}
 use Rattle.claims.specs.TwoBoards.{Sending}
 use Rattle.claims.specs.TwoBoardsFromC.{Lent, AlikeSessionsFromC}
 use Rattle.claims.specs.Trials.{chosen, writtenBoard, resetBoard, strictBoard, guardedBoard}
@@ -25,13 +27,13 @@ reset-is-lent guard byte main area bit small size = record {
 
 -- two of them, each with any record area of the size
 module _ (oneArea otherArea : List ℕ) (oneSize : length oneArea ≡ recordSize) (otherSize : length otherArea ≡ recordSize) (sendings : List Sending) where
-  two-reset-from-C : (guard : ℕ) → guard ≤ 1 → AlikeSessionsFromC (resetBoard guard 0x11 0x66) (resetBoard guard 0x22 0x77) oneArea otherArea sendings
+  two-reset-from-C : (guard : ℕ) → guard ≤ 1 → AlikeSessionsFromC mspm0 (resetBoard guard 0x11 0x66) (resetBoard guard 0x22 0x77) oneArea otherArea sendings
   two-reset-from-C guard bit =
-      two-boards-are-alike-from-C (resetBoard guard 0x11 0x66) (resetBoard guard 0x22 0x77) oneArea otherArea (reset-are-alike guard bit)
+      two-boards-are-alike-from-C mspm0 mspm0-is-sound (resetBoard guard 0x11 0x66) (resetBoard guard 0x22 0x77) oneArea otherArea (reset-are-alike guard bit)
       (reset-is-lent guard 0x11 0x66 oneArea bit (omega arith) oneSize) (reset-is-lent guard 0x22 0x77 otherArea bit (omega arith) otherSize) sendings
 
-  pub two-strict-from-C : AlikeSessionsFromC (strictBoard 0x11 0x66) (strictBoard 0x22 0x77) oneArea otherArea sendings
+  pub two-strict-from-C : AlikeSessionsFromC mspm0 (strictBoard 0x11 0x66) (strictBoard 0x22 0x77) oneArea otherArea sendings
   two-strict-from-C = two-reset-from-C 0 (omega arith)
 
-  pub two-guarded-from-C : AlikeSessionsFromC (guardedBoard 0x11 0x66) (guardedBoard 0x22 0x77) oneArea otherArea sendings
+  pub two-guarded-from-C : AlikeSessionsFromC mspm0 (guardedBoard 0x11 0x66) (guardedBoard 0x22 0x77) oneArea otherArea sendings
   two-guarded-from-C = two-reset-from-C 1 (omega arith)

@@ -7,8 +7,9 @@ use native.Mathlib.Omega.{arith}
 use borrow.Author.Tests.{le-leb}
 use lib.ListN.{length, getD, replicate, length-replicate}
 use Rattle.octets.specs.Choice.{pick}
-use Rattle.octets.specs.Number.{numberOf}
+use Rattle.octets.specs.Number.{numberOf, isMultiple}
 use Rattle.octets.proofs.Parts.{each-cons, each-replicate}
+use Rattle.parts.specs.Parts.{mspm0}
 use Rattle.settings.specs.declared.Settings.{Settings}
 use Rattle.settings.specs.Values.{isAllowed, blankSettings}
 use Rattle.settings.specs.Layout.{form1}
@@ -31,8 +32,8 @@ pub record Good (images : Images) (settings : Settings) : Type 0 where
   pub size : length (images .main) ≡ mainSize
   pub read : readOf form1 (images .settings) ≡ accepted settings
 
-pub starts : (images : Images) (settings : Settings) → Good images settings → startOf false (images .main) (images .settings) .answer .number ≡ 0
-unfolding startOf startRead isMainSize pick
+pub starts : (images : Images) (settings : Settings) → Good images settings → startOf mspm0 false (images .main) (images .settings) .answer .number ≡ 0
+unfolding startOf startRead isMainSize isMultiple pick
 starts images settings good = rw (good .size, good .read)
 
 -- a blank board
@@ -75,7 +76,7 @@ module _ (one other : Images) (oneSettings otherSettings : Settings) (oneGood : 
 
   are-alike : oneSettings .shown ≡ otherSettings .shown → oneSettings .protection ≡ otherSettings .protection
       → versionAt (oneSettings .shown .«version_pointer») (one .main) ≡ versionAt (otherSettings .shown .«version_pointer») (other .main)
-      → AlikeBoards one other
+      → AlikeBoards mspm0 one other
   are-alike shown protection version = record {
     oneStarts = starts one oneSettings oneGood;
     otherStarts = starts other otherSettings otherGood;
@@ -110,7 +111,7 @@ no-version : (main : List ℕ) → versionAt 0xFFFFFFFF main ≡ 0
 unfolding versionAt pick
 no-version main = refl
 
-pub blank-and-quiet-are-alike : AlikeBoards blankBoard (quietBoard 0 0)
+pub blank-and-quiet-are-alike : AlikeBoards mspm0 blankBoard (quietBoard 0 0)
 blank-and-quiet-are-alike =
     are-alike blankBoard (quietBoard 0 0) blankSettings _ blank-is-good (quiet-is-good 0 0 (omega arith)) refl refl
     (no-version (blankBoard .main) ∙ sym (no-version (quietBoard 0 0 .main)))
@@ -128,7 +129,7 @@ unfolding versionAt writtenBoard numberOf pick
 reset-version guard byte main = refl
 
 module _ (guard : ℕ) (bit : guard ≤ 1) where
-  pub reset-are-alike : AlikeBoards (resetBoard guard 0x11 0x66) (resetBoard guard 0x22 0x77)
+  pub reset-are-alike : AlikeBoards mspm0 (resetBoard guard 0x11 0x66) (resetBoard guard 0x22 0x77)
   reset-are-alike =
       are-alike (resetBoard guard 0x11 0x66) (resetBoard guard 0x22 0x77) _ _ (reset-is-good guard 0x11 0x66 bit (omega arith)) (reset-is-good guard 0x22 0x77 bit (omega arith)) refl refl
       (reset-version guard 0x11 0x66 ∙ sym (reset-version guard 0x22 0x77))

@@ -10,6 +10,8 @@ use lib.Seq.{take-all, take-append-seam}
 use Rattle.octets.specs.Choice.{pick}
 use Rattle.octets.specs.Number.{bytesOf}
 use Rattle.octets.proofs.Parts.{parts-join}
+use Rattle.parts.specs.Parts.{mspm0}
+use Rattle.parts.proofs.PartLaws.{mspm0-is-sound}
 use Rattle.line.specs.Codes.{replyLimit, unlock, isOneOf}
 use Rattle.line.specs.Packet.{coreIn}
 use Rattle.line.proofs.PacketLaws.{unlock-is-password}
@@ -29,7 +31,7 @@ use Rattle.flash.proofs.ErasingLaws.{erase-all-keeps-length, erase-all-of-open,
 use Rattle.session_judge.specs.Judgement.{says}
 use Rattle.session_judge.specs.Unlocking.{alertReset, tried}
 use Rattle.session_judge.specs.Hearing.{judgedOf}
-use Rattle.session_act.specs.Board.{sectorSize, settingsProtection}
+use Rattle.session_act.specs.Board.{settingsProtection}
 use Rattle.session_send.specs.Answering.{hushed}
 use Rattle.session_send.proofs.AnsweringLaws.{others-are-told, answer-is-whole}
 use Rattle.session.specs.declared.Session.{Session}
@@ -37,7 +39,7 @@ use Rattle.octets.specs.Alike.{areSame}
 use Rattle.session.specs.Calling.{followed, serveOf}
 use Rattle.session.proofs.RecordLaws.{record-by-clauses}
 use Rattle.claims.specs.TwoBoards.{Images, Running, settingsOf, started, Carries, Sending, called, next, replied, isStruck}
-use Rattle.claims.specs.Trials.{mainSize, chosen, resetBoard, strictBoard, guardedBoard, secondFF, allFF, connects, unlocks, twoGuesses, threeGuesses, ran}
+use Rattle.claims.specs.Trials.{sectorSize, mainSize, chosen, resetBoard, strictBoard, guardedBoard, secondFF, allFF, connects, unlocks, twoGuesses, threeGuesses, ran}
 use Rattle.claims.proofs.Sessions.CallRules.{valid-is-served, started-is-valid}
 use Rattle.claims.proofs.Secrecy.LockedBoard.{imageThen, alertOf, memoryThen, sessionThen, later, Locked, started-is-later, started-is-locked}
 use Rattle.claims.proofs.Secrecy.LockedCall.{verdict, call-is, stays-locked}
@@ -46,8 +48,8 @@ use Rattle.claims.proofs.Trials.SomeBoards.{Good, starts, reset-is-good
 
 -- a running board stands locked
 pub record Stands (images : Images) (board : Running) (standing : Standing) : Type 0 where
-  pub so : board ≡ later images standing
-  pub locked : Locked images standing
+  pub so : board ≡ later mspm0 images standing
+  pub locked : Locked mspm0 images standing
 
 -- the areas have the least room
 pub room : (byte : ℕ) → replyLimit ≤ length (replicate replyLimit byte)
@@ -56,44 +58,44 @@ room byte = omega (arith, length-replicate replyLimit byte)
 module _ (images : Images) (settings : Settings) (good : Good images settings) where
   -- ---- packets without its password
 
-  not-carried : (packet core : List ℕ) → coreIn packet ≡ core → (core ≡ unlock ∷ settings .password → ⊥) → Carries packet (settingsOf images .password) → ⊥
+  not-carried : (packet core : List ℕ) → coreIn packet ≡ core → (core ≡ unlock ∷ settings .password → ⊥) → Carries mspm0 packet (settingsOf images .password) → ⊥
   not-carried packet core there other carries =
       other (sym there ∙ carries .core ∙ ap (λ (told : ReadTold). unlock ∷ told .settings .password) (good .read))
 
-  pub connect-is-strange : Carries (connects .packet) (settingsOf images .password) → ⊥
+  pub connect-is-strange : Carries mspm0 (connects .packet) (settingsOf images .password) → ⊥
   connect-is-strange = not-carried (connects .packet) _ connect-core (λ e. omega (arith, ap (λ (bytes : List ℕ). getD bytes 0 0) e))
 
   -- another byte than the password's first
-  pub unlock-is-strange : (byte : ℕ) → (byte ≡ getD (settings .password) 0 0 → ⊥) → Carries (unlocks byte .packet) (settingsOf images .password) → ⊥
+  pub unlock-is-strange : (byte : ℕ) → (byte ≡ getD (settings .password) 0 0 → ⊥) → Carries mspm0 (unlocks byte .packet) (settingsOf images .password) → ⊥
   unlock-is-strange byte other =
       not-carried (unlocks byte .packet) _ (unlock-core byte) (λ e. other (ap (λ (bytes : List ℕ). getD bytes 1 0) e))
 
   -- ---- one call after another
 
-  stands-at-start : Stands images (started images) atStart
+  stands-at-start : Stands images (started mspm0 images) atStart
   stands-at-start =
-      record { so = started-is-later images (starts images settings good); locked = started-is-locked images (starts images settings good) }
+      record { so = started-is-later mspm0 images (starts images settings good); locked = started-is-locked mspm0 images (starts images settings good) mspm0-is-sound }
 
   module _ (board : Running) (standing : Standing) (stands : Stands images board standing) where
     -- a call without its password
-    stands-next : (sending : Sending) → (Carries (sending .packet) (settingsOf images .password) → ⊥) → replyLimit ≤ length (sending .oneArea)
-        → (after : Standing) → verdict images standing sending .standing ≡ after
-        → Stands images (next (called board sending (sending .oneArea))) after
+    stands-next : (sending : Sending) → (Carries mspm0 (sending .packet) (settingsOf images .password) → ⊥) → replyLimit ≤ length (sending .oneArea)
+        → (after : Standing) → verdict mspm0 images standing sending .standing ≡ after
+        → Stands images (next (called mspm0 board sending (sending .oneArea))) after
     stands-next sending stranger room after e = record {
       so =
-          ap (λ (board : Running). next (called board sending (sending .oneArea))) (stands .so)
-          ∙ ap next (call-is images standing (stands .locked) sending (sending .oneArea) stranger room)
-          ∙ ap (later images) e;
-      locked = subst (Locked images) e (stays-locked images standing (stands .locked) sending (sending .oneArea) stranger room);
+          ap (λ (board : Running). next (called mspm0 board sending (sending .oneArea))) (stands .so)
+          ∙ ap next (call-is mspm0 images standing (stands .locked) sending (sending .oneArea) stranger room)
+          ∙ ap (later mspm0 images) e;
+      locked = subst (Locked mspm0 images) e (stays-locked mspm0 images standing (stands .locked) sending (sending .oneArea) stranger room mspm0-is-sound);
     }
 
     -- an Unlock with another one
     pub guess : (byte : ℕ) → (byte ≡ getD (settings .password) 0 0 → ⊥) → (after : Standing)
-        → verdict images standing (unlocks byte) .standing ≡ after
-        → Stands images (next (called board (unlocks byte) (unlocks byte .oneArea))) after
+        → verdict mspm0 images standing (unlocks byte) .standing ≡ after
+        → Stands images (next (called mspm0 board (unlocks byte) (unlocks byte .oneArea))) after
     guess byte other after e = stands-next (unlocks byte) (unlock-is-strange byte other) (room 0) after e
 
-  pub connected : Stands images (ran (started images) (connects ∷ [])) (stood 0 0)
+  pub connected : Stands images (ran (started mspm0 images) (connects ∷ [])) (stood 0 0)
   connected = stands-next _ _ stands-at-start connects connect-is-strange (room 0) _ (connect-connects (alertOf images) false)
 
   -- ---- an Unlock, once connected
@@ -101,22 +103,22 @@ module _ (images : Images) (settings : Settings) (good : Good images settings) w
   module _ (byte : ℕ) (small : byte < 256) where
     -- it is tried, by whether it has the password
     pub unlock-is-tried : (right : Bool) → areSame (settings .password) (replicate 32 byte) ≡ right
-        → called (ran (started images) (connects ∷ [])) (unlocks byte) (unlocks byte .oneArea)
-        ≡ followed (sessionThen images (stood 0 0)) (later images (stood 0 0) .memory) (unlocks byte .packet) (unlocks byte .oneArea)
+        → called mspm0 (ran (started mspm0 images) (connects ∷ [])) (unlocks byte) (unlocks byte .oneArea)
+        ≡ followed mspm0 (sessionThen images (stood 0 0)) (later mspm0 images (stood 0 0) .memory) (unlocks byte .packet) (unlocks byte .oneArea)
         (tried (stood 0 0) (alertOf images) right)
     unfolding serveOf
     unlock-is-tried right compared =
-        let core = sym (unlock-is-password (unlocks byte .packet) (unlock-is-fine byte small) (unlock-is-read byte)) ∙ unlock-core byte in
+        let core = sym (unlock-is-password (mspm0 .«last_rate») (unlocks byte .packet) (unlock-is-fine byte small) (unlock-is-read byte)) ∙ unlock-core byte in
         let bit = ap₂ areSame (ap (λ (told : ReadTold). told .settings .password) (good .read)) (ap (drop 1) core) ∙ compared in
-        ap (λ (board : Running). called board (unlocks byte) (unlocks byte .oneArea)) (connected .so)
-        ∙ valid-is-served (sessionThen images (stood 0 0)) _ 2000 (unlocks byte .packet) (unlocks byte .oneArea) (connected .locked .valid) (room 0)
-        ∙ ap (followed (sessionThen images (stood 0 0)) _ (unlocks byte .packet) (unlocks byte .oneArea))
-        (ap (judgedOf (stood 0 0) (alertOf images) 2000 (unlocks byte .packet)) bit ∙ tried-awake byte small 0 (alertOf images) right)
+        ap (λ (board : Running). called mspm0 board (unlocks byte) (unlocks byte .oneArea)) (connected .so)
+        ∙ valid-is-served mspm0 (sessionThen images (stood 0 0)) _ 2000 (unlocks byte .packet) (unlocks byte .oneArea) (connected .locked .valid) (room 0)
+        ∙ ap (followed mspm0 (sessionThen images (stood 0 0)) _ (unlocks byte .packet) (unlocks byte .oneArea))
+        (ap (judgedOf (mspm0 .«last_rate») (stood 0 0) (alertOf images) 2000 (unlocks byte .packet)) bit ∙ tried-awake byte small 0 (alertOf images) right)
 
 -- the message that an Unlock gets is the sixth byte of its reply
 module _ (session : Session) (before : Memory) (byte code : ℕ) (standing : Standing) where
   abbrev reply : List ℕ
-  reply = replied (followed session before (unlocks byte .packet) (unlocks byte .oneArea) (says standing (Message code)))
+  reply = replied (followed mspm0 session before (unlocks byte .packet) (unlocks byte .oneArea) (says standing (Message code)))
 
   reply-is-message : reply ≡ replyBytes (Message code) []
   unfolding bytesOf isOneOf pick
@@ -175,12 +177,12 @@ module _ (guard byte main : ℕ) (bit : guard ≤ 1) (small : byte < 256) (other
   resets : alertOf struckBoard ≡ alertReset
   resets = ap (λ (told : ReadTold). told .settings .shown .alert) (good .read)
 
-  guessed-twice : Stands struckBoard (ran (started struckBoard) twoGuesses) (stood mostSleep 2)
+  guessed-twice : Stands struckBoard (ran (started mspm0 struckBoard) twoGuesses) (stood mostSleep 2)
   guessed-twice =
       let first = guess struckBoard _ good _ _ (connected struckBoard _ good) 0x33 other _ (first-is-counted 0x33 (omega arith) (alertOf struckBoard)) in
       guess struckBoard _ good _ _ first 0x33 other _ (second-is-counted 0x33 (omega arith) (alertOf struckBoard))
 
-  guessed : Stands struckBoard (ran (started struckBoard) threeGuesses) (stood mostSleep 3)
+  guessed : Stands struckBoard (ran (started mspm0 struckBoard) threeGuesses) (stood mostSleep 3)
   guessed = guess struckBoard _ good _ _ guessed-twice 0x33 other _ (rw resets (third-is-counted 0x33 (omega arith)))
 
   struck-at-three : (isStruck (alertOf struckBoard) 2 ≡ false) × (isStruck (alertOf struckBoard) 3 ≡ true)
@@ -188,30 +190,30 @@ module _ (guard byte main : ℕ) (bit : guard ≤ 1) (small : byte < 256) (other
   struck-at-three = (rw resets, rw resets)
 
   -- two change nothing
-  pub two-guesses-keep : ran (started struckBoard) twoGuesses .memory ≡ struckBoard
+  pub two-guesses-keep : ran (started mspm0 struckBoard) twoGuesses .memory ≡ struckBoard
   unfolding imageThen pick
-  two-guesses-keep = ap (λ (board : Running). board .memory) (guessed-twice .so) ∙ ap (memoryThen struckBoard) (struck-at-three .0)
+  two-guesses-keep = ap (λ (board : Running). board .memory) (guessed-twice .so) ∙ ap (memoryThen mspm0 struckBoard) (struck-at-three .0)
 
   -- the third one strikes; what the strike leaves follows from the bits
-  strike-leaves : ran (started struckBoard) threeGuesses .memory
+  strike-leaves : ran (started mspm0 struckBoard) threeGuesses .memory
       ≡ memory (imageThen sectorSize true (guard ∷ replicate 7 0) (struckBoard .main)) (imageThen sectorSize true (guard ∷ []) (struckBoard .settings))
   strike-leaves =
       ap (λ (board : Running). board .memory) (guessed .so)
-      ∙ ap (memoryThen struckBoard) (struck-at-three .1)
+      ∙ ap (memoryThen mspm0 struckBoard) (struck-at-three .1)
       ∙ ap (λ (told : ReadTold). memory (imageThen sectorSize true (told .settings .protection) (struckBoard .main))
       (imageThen sectorSize true (settingsProtection (told .settings .shown)) (struckBoard .settings))) (good .read)
 
 module _ (byte main : ℕ) (small : byte < 256) (other : 0x33 ≡ byte → ⊥) where
   -- where nothing is protected, all is erased
-  pub three-guesses-erase : ran (started (strictBoard byte main)) threeGuesses .memory ≡ allFF (strictBoard byte main)
+  pub three-guesses-erase : ran (started mspm0 (strictBoard byte main)) threeGuesses .memory ≡ allFF (strictBoard byte main)
   three-guesses-erase =
       strike-leaves 0 byte main (omega arith) small other ∙ ap₂ memory (all-erased 8 _) (all-erased 1 _)
 
   -- where the first sector and the settings are protected, the second sector is erased
-  pub three-guesses-keep : ran (started (guardedBoard byte main)) threeGuesses .memory ≡ secondFF (guardedBoard byte main)
+  pub three-guesses-keep : ran (started mspm0 (guardedBoard byte main)) threeGuesses .memory ≡ secondFF (guardedBoard byte main)
   three-guesses-keep =
       strike-leaves 1 byte main (omega arith) small other
       ∙ ap₂ memory (second-erased (guardedBoard byte main .main) (reset-is-good 1 byte main (omega arith) small .size)) (all-kept _ settings-size)
     where
       settings-size : length (guardedBoard byte main .settings) ≡ sectorSize
-      settings-size = record-by-clauses _ _ _ (started-is-valid false _ _ (starts _ _ (reset-is-good 1 byte main (omega arith) small))) .settings
+      settings-size = record-by-clauses mspm0 _ _ _ (started-is-valid mspm0 false _ _ mspm0-is-sound (starts _ _ (reset-is-good 1 byte main (omega arith) small))) .settings

@@ -10,4 +10,4 @@ judge-packet-spec =
     (tie.spec
     (λ c κs. search needs)
     (λ c κs. search needs)
-    (λ c. c .judge .ensures ∙ c .before .unlocks .ensures _ _ _))
+    (λ c. c .judge .ensures ∙ c .before .unlocks .ensures _ _ _ _))

@@ -7,6 +7,7 @@ use borrow.Author.Needs.{needs}
 use denote.Enum.Declared.{tagOf}
 use types.Run.{OneOf, miss}
 use Rattle.octets.specs.Alike.{areSame}
+use Rattle.parts.specs.declared.Part.{Part}
 use Rattle.line.specs.Packet.{resetPasswordIn}
 use Rattle.line.specs.declared.Guarded.{Guarded}
 use Rattle.line.specs.declared.Guarded.the-variants as guarded
@@ -27,16 +28,16 @@ unperformed = 0 ∷ 1 ∷ 2 ∷ []
 abbrev others : List ℕ
 others = 0 ∷ 1 ∷ 2 ∷ 3 ∷ 4 ∷ 6 ∷ []
 
-module _ (mainSize : ℕ) (shown : Shown) (one other : Bool) (before : Memory) where
+module _ (part : Part) (mainSize : ℕ) (shown : Shown) (one other : Bool) (before : Memory) where
   planned-alike : (effect : Effect) → OneOf unperformed (tagOf effect-type.the-type effect)
-      → planOf mainSize shown one before effect ≡ planOf mainSize shown other before effect
+      → planOf part mainSize shown one before effect ≡ planOf part mainSize shown other before effect
   planned-alike (Say reply) h = refl
   planned-alike TellInfo h = refl
   planned-alike Strike h = refl
   planned-alike (Perform task) h = absurd (miss unperformed 3 tt h)
 
   task-alike : (task : Guarded) → OneOf others (tagOf guarded-type.the-type task)
-      → taskPlanned mainSize shown one before task ≡ taskPlanned mainSize shown other before task
+      → taskPlanned part mainSize shown one before task ≡ taskPlanned part mainSize shown other before task
   task-alike (guarded.RangeErase start end) h = refl
   task-alike guarded.MassErase h = refl
   task-alike (guarded.Program address size silent) h = refl
@@ -46,17 +47,17 @@ module _ (mainSize : ℕ) (shown : Shown) (one other : Bool) (before : Memory) w
   task-alike guarded.WrongLength h = refl
 
 returns : tie.Need-returns
-returns c mainSize shown before = planned-alike mainSize shown _ _ before (c .before .before .before .args .effect) (c .match .keys2)
+returns c part mainSize shown before = planned-alike part mainSize shown _ _ before (c .before .before .before .args .effect) (c .match .keys2)
 
 returns-2 : tie.Need-returns-2
-returns-2 c mainSize shown before =
+returns-2 c part mainSize shown before =
     let told = c .before .before .effect .given in
     let args = c .before .before .before .before .before .before .args in
     let right = areSame (args .password .now) (resetPasswordIn (args .packet .now)) in
-    rw (told .1) (task-alike mainSize shown false right before (told .0 .0) (c .match2 .keys2))
+    rw (told .1) (task-alike part mainSize shown false right before (told .0 .0) (c .match2 .keys2))
 
 returns-3 : tie.Need-returns-3
-returns-3 c mainSize shown before = rw (c .are-same .ensures, c .before .part-of .ensures)
+returns-3 c part mainSize shown before = rw (c .are-same .ensures, c .before .part-of .ensures)
 
 pub resets-spec : {M : Type 1} → statement M
 resets-spec =

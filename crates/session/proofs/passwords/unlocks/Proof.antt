@@ -6,12 +6,12 @@ use Rattle.session.proofs.passwords.unlocks.Statement.{statement}
 use Rattle.session.proofs.passwords.unlocks.Tie as tie
 
 returns : tie.Need-returns
-returns c standing alert wait =
+returns c standing lastRate alert wait =
     let read = c .before in
-    sym (others-are-not-compared _ (λ e. c .if1 .taken (read .byte-at .ensures ∙ e)) standing alert wait _)
+    sym (others-are-not-compared lastRate _ (λ e. c .if1 .taken (read .byte-at .ensures ∙ e)) standing alert wait _)
 
 returns-2 : tie.Need-returns-2
-returns-2 c standing alert wait = rw (c .are-same .ensures, c .before .part-of .ensures)
+returns-2 c standing lastRate alert wait = rw (c .are-same .ensures, c .before .part-of .ensures)
 
 pub unlocks-spec : {M : Type 1} → statement M
 unlocks-spec =

@@ -18,7 +18,7 @@ start-spec =
     (λ c κs. search needs)
     (λ c κs. search needs)
     (λ c. rw (c .before .before .before .if1 .left, ← c .before .before .is-main-size .ensures, not-true (c .before .before .is-main-size .result) (c .before .if2 .taken), c .refused2 .ensures))
-    (λ c. let small = main-size-is-small _ (sym (c .before .is-main-size .ensures) ∙ not-false (c .before .is-main-size .result) (c .if2 .left)) in search needs)
+    (λ c. let small = main-size-is-small _ _ (sym (c .before .is-main-size .ensures) ∙ not-false (c .before .is-main-size .result) (c .if2 .left)) in search needs)
     (λ c κs. search needs)
     (λ c κs. search needs)
     (λ c. rw (c .before .before .before .before .if1 .left, ← c .before .before .before .is-main-size .ensures, not-false (c .before .before .before .is-main-size .result) (c .before .before .if2 .left), c .start-read .ensures, c .before .read .ensures)))

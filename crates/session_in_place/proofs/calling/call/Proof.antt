@@ -40,6 +40,7 @@ use denote.Triple.Clauses.{ensured, lasts}
 use denote.Triple.Table.{entered, cited}
 use denote.Triple.Walked.{says, Stays, stay-ref, stay-dropped, gave-slice, walkOf, goes-dropped, goes-gave-slice, goes-ref, ends-at, walked, walk-meets}
 use denote.Exit.{yes}
+use Rattle.parts.specs.Parts.{mspm0}
 use Rattle.flash.specs.Memory.{memory}
 use Rattle.session.specs.CallAnswers.{callLeft}
 use Rattle.session.specs.Calling.{callOf}
@@ -51,10 +52,10 @@ use Rattle.session.proofs.Called.Laws as R′
 use Rattle.session.proofs.CallAnswer as O
 use Rattle.session.proofs.CallAnswer.Laws as O′
 use Rattle.session_in_place.proofs.RecordSteps.{sessionVal, sliceAt, held-typed, takes-out, puts-back, gives-up}
-use Rattle.session.proofs.call as core
-use Rattle.session.proofs.call.Symbol as core-def
-use Rattle.session.proofs.call.Symbol.{name as #core}
-use Rattle.session.proofs.call.Met as core-thm
+use Rattle.mspm0.proofs.call as core
+use Rattle.mspm0.proofs.call.Symbol as core-def
+use Rattle.mspm0.proofs.call.Symbol.{name as #core}
+use Rattle.mspm0.proofs.call.Met as core-thm
 use Rattle.session_in_place.proofs.calling.call.Key.{name as #self}
 use Rattle.session_in_place.proofs.calling.call as self
 use Rattle.session_in_place.proofs.calling.call.Statement as stated
@@ -123,7 +124,7 @@ module _ {M : Type 1} (𝓤 : URA M) (H : Heap 𝓤) (A : Atoms 𝓤) (mem′ : 
 
     -- what the call by value tells of them
     abbrev Told : Called → Ends → Type 0
-    Told r zs = callLeft r (memory (main-then zs) (image-then zs)) (area-then zs) ≡ callOf (session .now) (memory (main .now) (image .now)) wait (packet .now) (area .now)
+    Told r zs = callLeft r (memory (main-then zs) (image-then zs)) (area-then zs) ≡ callOf mspm0 (session .now) (memory (main .now) (image .now)) wait (packet .now) (area .now)
 
     -- what is had at the end
     abbrev ended : Session → Ends → List (Item 𝓤)
@@ -217,4 +218,4 @@ call-spec 𝓤 H 𝓜 𝓖 𝓡 =
     entered 𝓤 H (tripleOf 𝓤 H (𝓖 .A) self.signature (self.spec 𝓤 H (𝓖 .A) (𝓜 .mem) (𝓡 .run)))
     (tables 𝓤 H 𝓜 𝓡 code.env .C) (tables 𝓤 H 𝓜 𝓡 code.env .Λ) #self code.function (code.unfolded 𝓤 H 𝓜 𝓡)
     (meets 𝓤 H (𝓖 .A) (𝓜 .mem) (𝓡 .run) (givenOf 𝓤 H 𝓜 𝓖) (tablesOf 𝓤 H 𝓜 (tables 𝓤 H 𝓜 𝓡 code.env))
-    (cited 𝓤 H (Core 𝓤 H (𝓖 .A) (𝓜 .mem) (𝓡 .run)) 𝓜 𝓡 code.env #core core-def.routine code.calls-session·call (core-thm.met 𝓤 H 𝓜 𝓖 𝓡)))
+    (cited 𝓤 H (Core 𝓤 H (𝓖 .A) (𝓜 .mem) (𝓡 .run)) 𝓜 𝓡 code.env #core core-def.routine code.calls-mspm0·call (core-thm.met 𝓤 H 𝓜 𝓖 𝓡)))

@@ -37,19 +37,19 @@ module _ (packet : List ℕ) where
   other-code : (standing : Standing) → (codeIn packet ≡ connect → ⊥) → detected standing (commandOf packet) ≡ silently standing
   other-code standing h = others-are-silent standing (commandOf packet) (λ e. h (connect-stands e .0))
 
-  other-size : (standing : Standing) → acknowledgement packet ≡ acknowledged → (length packet ≡ 8 → ⊥)
+  other-size : (lastRate : ℕ) (standing : Standing) → acknowledgement lastRate packet ≡ acknowledged → (length packet ≡ 8 → ⊥)
       → detected standing (commandOf packet) ≡ silently standing
-  other-size standing a h =
+  other-size lastRate standing a h =
       others-are-silent standing (commandOf packet)
       (λ e.
-      let size : length packet ≡ lengthIn packet + 7 = acknowledged-is-framed packet a .size in
+      let size : length packet ≡ lengthIn packet + 7 = acknowledged-is-framed lastRate packet a .size in
       let one : lengthIn packet ≡ 1 = connect-stands e .1 in
       h (omega arith))
 
-  exact-is-connect : acknowledgement packet ≡ acknowledged → codeIn packet ≡ connect → length packet ≡ 8 → commandOf packet ≡ command.Connect
+  exact-is-connect : (lastRate : ℕ) → acknowledgement lastRate packet ≡ acknowledged → codeIn packet ≡ connect → length packet ≡ 8 → commandOf packet ≡ command.Connect
   unfolding commandOf lengthFits openOf isOneOf pick
-  exact-is-connect a code size =
-      let framed : length packet ≡ lengthIn packet + 7 = acknowledged-is-framed packet a .size in
+  exact-is-connect lastRate a code size =
+      let framed : length packet ≡ lengthIn packet + 7 = acknowledged-is-framed lastRate packet a .size in
       let one : lengthIn packet ≡ 1 = omega arith in
       rw (code, one)
 
@@ -73,12 +73,12 @@ heard-in-detect-spec =
     let read = c .before .before .before in
     let heard = read .before .before in
     rw (c .silently3 .ensures, ← heard .acknowledge .ensures, eq-eqb _ _ (read .before .if1 .left))
-    (sym (other-size _ _ (sym (heard .acknowledge .ensures) ∙ read .before .if1 .left) (c .before .if3 .taken))))
+    (sym (other-size _ _ _ (sym (heard .acknowledge .ensures) ∙ read .before .if1 .left) (c .before .if3 .taken))))
     (λ c κs. search needs)
     (λ c κs. search needs)
     (λ c.
     let read = c .before .before .before .before in
     let heard = read .before .before in
     let code = sym (read .byte-at .ensures) ∙ c .before .before .before .if2 .left in
-    let asked = exact-is-connect _ (sym (heard .acknowledge .ensures) ∙ read .before .if1 .left) code (c .before .before .if3 .left) in
+    let asked = exact-is-connect _ _ (sym (heard .acknowledge .ensures) ∙ read .before .if1 .left) code (c .before .before .if3 .left) in
     rw (c .acknowledges .ensures, c .before .connected .ensures, ← heard .acknowledge .ensures, eq-eqb _ _ (read .before .if1 .left), asked)))

@@ -20,13 +20,13 @@ use Rattle.session_judge.proofs.hearing.judge.Tie as tie
 abbrev over : List ℕ
 over = 2 ∷ 3 ∷ 4 ∷ []
 
-over-is-silent : (standing : Standing) (alert : ℕ) (packet : List ℕ) (right : Bool) (at : Phase)
-    → OneOf over (tagOf the-type at) → heardIn standing alert packet right at ≡ silently standing
-over-is-silent standing alert packet right phase.Detect h = absurd (miss over 0 tt h)
-over-is-silent standing alert packet right (phase.Command unlocked sleep) h = absurd (miss over 1 tt h)
-over-is-silent standing alert packet right phase.Standby h = refl
-over-is-silent standing alert packet right phase.Ended h = refl
-over-is-silent standing alert packet right phase.Disabled h = refl
+over-is-silent : (lastRate : ℕ) (standing : Standing) (alert : ℕ) (packet : List ℕ) (right : Bool) (at : Phase)
+    → OneOf over (tagOf the-type at) → heardIn lastRate standing alert packet right at ≡ silently standing
+over-is-silent lastRate standing alert packet right phase.Detect h = absurd (miss over 0 tt h)
+over-is-silent lastRate standing alert packet right (phase.Command unlocked sleep) h = absurd (miss over 1 tt h)
+over-is-silent lastRate standing alert packet right phase.Standby h = refl
+over-is-silent lastRate standing alert packet right phase.Ended h = refl
+over-is-silent lastRate standing alert packet right phase.Disabled h = refl
 
 pub judge-spec : {M : Type 1} → statement M
 unfolding heardAfter judgedOf pick
@@ -55,4 +55,4 @@ judge-spec =
     rw (c .heard-in-command .ensures, ← p .ensures, not-false (p .result .heard) (c .before .before .before .before .before .if1 .left), ne-eqb _ _ (c .before .before .before .before .if2 .left), c .before .before .phase .given .1))
     (λ c.
     let p = c .before .before .before .before .before .before .pass-time in
-    rw (c .silently3 .ensures, ← p .ensures, not-false (p .result .heard) (c .before .before .before .if1 .left), ne-eqb _ _ (c .before .before .if2 .left), over-is-silent _ _ _ _ _ (c .before .match .keys3))))
+    rw (c .silently3 .ensures, ← p .ensures, not-false (p .result .heard) (c .before .before .before .if1 .left), ne-eqb _ _ (c .before .before .if2 .left), over-is-silent _ _ _ _ _ _ (c .before .match .keys3))))

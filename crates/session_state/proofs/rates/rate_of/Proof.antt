@@ -1,5 +1,5 @@
--- `session_state::rates::rate_of` meets its contract: the table is tested entry by entry, and past it no id has a rate.
-use mathlib.Core.Path.{sym}
+-- `session_state::rates::rate_of` meets its contract: the table is tested entry by entry, and past it and past the part's last no id has a rate.
+use mathlib.Core.Path.{sym, _∙_}
 use mathlib.Core.List.{List, [], _∷_}
 use Prim.Native.Nat.{ℕ}
 use native.Mathlib.Omega.{arith}
@@ -9,14 +9,14 @@ use Rattle.octets.specs.Choice.{pick}
 use Rattle.octets.proofs.Table.{passes, equal-at}
 use Rattle.line.specs.Acknowledgement.{isRate}
 use Rattle.session_state.specs.Rates.{rateOf}
-use Rattle.session_state.proofs.RateLaws.{no-rate}
+use Rattle.session_state.proofs.RateLaws.{no-rate, past-the-table, same-rate}
 use Rattle.session_state.proofs.rates.rate_of.Statement.{statement}
 use Rattle.session_state.proofs.rates.rate_of.Tie as tie
 
 abbrev table : List ℕ
 table = 0 ∷ 4800 ∷ 9600 ∷ 19200 ∷ 38400 ∷ 57600 ∷ 115200 ∷ 1000000 ∷ 2000000 ∷ 3000000 ∷ []
 
-table-is-right : T (passes (λ id entry. eqb entry (rateOf id)) 0 table)
+table-is-right : T (passes (λ id entry. eqb entry (rateOf 9 id)) 0 table)
 unfolding isRate rateOf pick
 table-is-right = tt
 
@@ -24,7 +24,10 @@ pub rate-of-spec : {M : Type 1} → statement M
 rate-of-spec =
     tie.close
     (tie.spec
-    (λ c. sym (no-rate (c .before .args .id) (c .if1 .taken)))
+    (λ c. sym (no-rate (c .before .args .last-rate) (c .before .args .id) (c .if1 .taken)))
+    (λ c. sym (past-the-table (c .before .before .args .last-rate) (c .before .before .args .id) (c .if2 .taken)))
     (λ c. search needs)
     (λ c. search needs)
-    (λ c. equal-at rateOf table table-is-right (c .before .args .id) (omega arith)))
+    (λ c.
+    let a = c .before .before .args in
+    equal-at (rateOf 9) table table-is-right (a .id) (omega arith) ∙ sym (same-rate (a .last-rate) (a .id) (omega arith) (omega arith))))

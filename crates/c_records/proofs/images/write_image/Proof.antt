@@ -1,0 +1,22 @@
+-- `c_records::images::write_image` meets its contract: the tests of the definition, and then the writer.
+use borrow.Author.Needs.{needs}
+use borrow.Author.Tests.{eq-eqb, ne-eqb}
+use Rattle.octets.specs.Choice.{pick}
+use Rattle.c_records.specs.SettingsFromC.{writeFromC}
+use Rattle.c_records.proofs.images.write_image.Statement.{statement}
+use Rattle.c_records.proofs.images.write_image.Tie as tie
+
+pub write-image-spec : {M : Type 1} → statement M
+unfolding writeFromC pick
+write-image-spec =
+    tie.close
+    (tie.spec
+    (λ c. rw (ne-eqb _ _ (c .if1 .taken)))
+    (λ c. rw (eq-eqb _ _ (c .before .if1 .left), ne-eqb _ _ (c .if2 .taken)))
+    (λ c κs. search needs)
+    (λ c. rw (eq-eqb _ _ (c .before .before .before .if1 .left), eq-eqb _ _ (c .before .before .if2 .left), ← c .before .byte-at .ensures, ne-eqb _ _ (c .if3 .taken)))
+    (λ c κs. search needs)
+    (λ c κs. search needs)
+    (λ c κs. search needs)
+    (λ c. search needs)
+    (λ c. rw (c .of-write .ensures, eq-eqb _ _ (c .before .before .before .before .before .before .before .before .before .if1 .left), eq-eqb _ _ (c .before .before .before .before .before .before .before .before .if2 .left), ← c .before .before .before .before .before .before .before .byte-at .ensures, eq-eqb _ _ (c .before .before .before .before .before .before .if3 .left), ← c .before .before .before .before .before .read-fields .ensures, ← c .before .before .before .write .ensures)))

@@ -1,0 +1,19 @@
+-- `c_records::sessions::store_record` meets its contract: a refusal as it is, another size, or the record.
+use borrow.Author.Needs.{needs}
+use borrow.Author.Tests.{eq-eqb, ne-eqb}
+use Rattle.octets.specs.Choice.{pick}
+use Rattle.c_records.specs.Stored.{storedBy}
+use Rattle.c_records.proofs.sessions.store_record.Statement.{statement}
+use Rattle.c_records.proofs.sessions.store_record.Tie as tie
+
+pub store-record-spec : {M : Type 1} → statement M
+unfolding storedBy pick
+store-record-spec =
+    tie.close
+    (tie.spec
+    (λ c κs. search needs)
+    (λ c. rw (← c .before .of-start .ensures, ne-eqb _ _ (c .if1 .taken)))
+    (λ c. rw (← c .before .before .of-start .ensures, eq-eqb _ _ (c .before .if1 .left), ne-eqb _ _ (c .if2 .taken)))
+    (λ c κs. search needs)
+    (λ c. search needs)
+    (λ c. rw (c .before .before .put-record .ensures, ← c .before .before .before .before .before .before .of-start .ensures, eq-eqb _ _ (c .before .before .before .before .before .if1 .left), eq-eqb _ _ (c .before .before .before .before .if2 .left))))

@@ -1,0 +1,49 @@
+// What C calls, for any part: functions on numbers and byte areas. docs/RECORD.md has the layout of the areas; the names that C
+// calls stand in a crate for each part.
+mod decoding;
+mod encoding;
+mod images;
+mod numbers;
+mod rates;
+mod session_answers;
+mod sessions;
+mod settings_answers;
+
+pub use images::read_image;
+pub use images::write_image;
+pub use numbers::of_refusal;
+pub use rates::rate_by_id;
+pub use sessions::call_record;
+pub use sessions::start_record;
+
+// The refusal is in the top byte, the burn in bit 32.
+pub const REFUSAL_UNIT: u64 = 0x0100_0000_0000_0000;
+
+pub(crate) const BURN_UNIT: u64 = 0x0000_0001_0000_0000;
+
+// Numbers of refused calls.
+pub(crate) const FUSE_SET: u64 = REFUSAL_UNIT;
+
+pub(crate) const MAIN_SIZE_WRONG: u64 = 2 * REFUSAL_UNIT;
+
+pub const SETTINGS_SIZE_WRONG: u64 = 3 * REFUSAL_UNIT;
+
+pub const VALUE_NOT_ALLOWED: u64 = 8 * REFUSAL_UNIT;
+
+pub(crate) const REPLY_AREA_TOO_SMALL: u64 = 9 * REFUSAL_UNIT;
+
+pub(crate) const RECORD_NOT_VALID: u64 = 10 * REFUSAL_UNIT;
+
+// A session record as bytes: phase, lock, wrong count and rate id, then sleep, idle and the size of MAIN, then the settings' fields.
+pub(crate) const RECORD_SIZE: usize = 90;
+
+pub(crate) const SLEEP_AT: usize = 4;
+
+pub(crate) const IDLE_AT: usize = 8;
+
+pub(crate) const MAIN_SIZE_AT: usize = 12;
+
+pub(crate) const FIELDS_AT: usize = 16;
+
+// The zero byte of body 3.
+pub(crate) const ZERO_AT: usize = FIELDS_AT + settings::ZERO_AT;

@@ -1,0 +1,2 @@
+-- PartLaws: each part is sound.
+pub mod PartLaws
