@@ -5,9 +5,10 @@ PREFIX ?= /usr/local
 N ?= 200000
 SCRIPT ?= crates/runner/stdin
 SCOPE ?= ../shared/documents/01-scope.md
+REQUESTS ?= ../shared/documents/02-change-requests.md
 
 # Handed on by the environment, where a space or a quote in them does no harm.
-export PREFIX DESTDIR N SCRIPT SCOPE
+export PREFIX DESTDIR N SCRIPT SCOPE REQUESTS
 
 help:
 	@sed "s/{crates}/$$(grep -c '^[a-z_0-9]*:' crates.txt)/" tools/help.txt
@@ -71,9 +72,9 @@ stack:
 statement:
 	python3 -B tools/statement/statement.py
 
-# Which definitions quote which sentence of document 01.
+# Which definitions quote which sentence of document 01, and of the requests of document 02.
 index:
-	@tools/make_index.py "$$SCOPE" docs/INDEX.md
+	@tools/make_index.py "$$SCOPE" "$$REQUESTS" docs/INDEX.md
 
 # The rooms of crates.txt and what each stands on.
 picture:

@@ -1,8 +1,8 @@
 """Counts the instructions of single calls by the emulator of an x86-64 processor, which is the same on every machine.
 
-    python3 -B bench/count.py PROGRAM
+    python3 -B bench/count.py PROGRAM [WHAT]
 
-runs `PROGRAM count`, which prints a title for each call and has a mark before and after it. The emulator takes one step at a time
+runs `PROGRAM WHAT`, or `PROGRAM count`, which prints a title for each call and has a mark before and after it. The emulator takes one step at a time
 and tells the address of each. Prints each title and how many steps there were between its two marks, outside of the program's own
 code. A string instruction (rep stos) is one step for each of its turns."""
 import pathlib
@@ -44,20 +44,20 @@ def steps_between(log, mark):
     return counts
 
 
-def emulation(program, mark):
+def emulation(program, what, mark):
     """How the program is run. Later emulators name the single step otherwise."""
     known = subprocess.run([EMULATOR, "-h"], capture_output=True, text=True).stdout
     step = "-one-insn-per-tb" if "-one-insn-per-tb" in known else "-singlestep"
     places = ",".join(measured_places(program) + [f"{mark:#x}+1"])
     log = ["-d", "exec,nochain", "-dfilter", places]
-    return [shutil.which(EMULATOR), "-cpu", "qemu64", step, *log, f"./{pathlib.Path(program).name}", "count"]
+    return [shutil.which(EMULATOR), "-cpu", "qemu64", step, *log, f"./{pathlib.Path(program).name}", what]
 
 
-def count(program):
+def count(program, what):
     mark = place_of_mark(program)
     with tempfile.TemporaryFile() as titles:
         # no environment, and a name without a path: where the stack begins depends on nothing of this machine
-        run = subprocess.Popen(emulation(program, mark), stdout=titles, stderr=subprocess.PIPE, cwd=pathlib.Path(program).parent,
+        run = subprocess.Popen(emulation(program, what, mark), stdout=titles, stderr=subprocess.PIPE, cwd=pathlib.Path(program).parent,
                                env={})
         counts = steps_between(run.stderr, mark)
         titles.seek(0)
@@ -69,7 +69,7 @@ def count(program):
 
 
 if __name__ == "__main__":
-    if len(sys.argv) != 2:
+    if len(sys.argv) not in (2, 3):
         raise SystemExit(__doc__)
-    for title, steps in count(sys.argv[1]):
+    for title, steps in count(sys.argv[1], *(sys.argv[2:] or ["count"])):
         print(f"{title}\t{steps}")

@@ -22,6 +22,15 @@ def of_calls():
     return read_calls((WORK / "calls.counts").read_text().splitlines())
 
 
+def of_places():
+    """The instructions of an Unlock that is wrong in one byte, by side: those of each place, in their order."""
+    found = {}
+    for line in (WORK / "places.counts").read_text().splitlines():
+        side, _, steps = line.split("\t")
+        found.setdefault(side, []).append(int(steps))
+    return found
+
+
 def of_checksums():
     """The instructions of each way, by the number of bytes."""
     found = {}

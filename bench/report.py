@@ -1,7 +1,8 @@
 """Turns what bench/run.sh has measured into the tables of docs/BENCH.md and into docs/bench.svg.
 
 Judges by instructions alone, which are the same on every machine. Ends with status 1 where a call takes more of them than the model
-by either compiler and is not named under "Where we are slower", and where it takes more than bench/limits.txt allows."""
+by either compiler and is not named under "Where we are slower", where it takes more than bench/limits.txt allows, and where an Unlock
+takes more or less by which byte of its password is wrong."""
 import pathlib
 import sys
 
@@ -84,6 +85,13 @@ def checksum_table():
     return blocks.table(heads, rows)
 
 
+def place_table(places):
+    """What an Unlock takes that is wrong in one byte, over all places of that byte."""
+    heads = ["an Unlock wrong in one byte, at each place", "places", "different numbers", "least", "most"]
+    rows = [[side, f"{len(steps)}", f"{len(set(steps))}", f"{min(steps):,}", f"{max(steps):,}"] for side, steps in places.items()]
+    return blocks.table(heads, rows)
+
+
 def machine():
     said = dict(lines_of("machine.tsv"))
     text = (f"Instructions: qemu-x86_64 {said['qemu']}, gcc {said['gcc']}, the toolchain's clang {said['clang']}, "
@@ -100,12 +108,19 @@ def unexplained(cases):
         yield f"{name} takes more instructions than the model's, and docs/BENCH.md does not say why"
 
 
+def told_by_place(places):
+    if len(set(places["ours"])) > 1:
+        yield f"an Unlock takes another number of instructions where another byte is wrong: {places['ours']}"
+
+
 def main():
     steps = counted.of_calls()
     cases = [Case(line, steps) for line in lines_of("calls.times")]
     shown = [case for case in cases if not case.only_a_size]
     blocks.replace("machine", machine())
+    places = counted.of_places()
     blocks.replace("calls", call_table(shown))
+    blocks.replace("places", place_table(places))
     blocks.replace("sizes", size_table(cases))
     blocks.replace("checksum", checksum_table())
     rows = [(case.title, *(case.ratio(model) for model in MODELS)) for case in shown]
@@ -113,7 +128,7 @@ def main():
     more = [sum(case.ratio(model) > 1 for case in shown) for model in MODELS]
     print(f"bench: of {len(shown)} calls {more[0]} take more instructions than the model by gcc, {more[1]} than by clang; "
           "docs/BENCH.md has the figures")
-    faults = [*unexplained(cases), *limits.faults({case.title: case.ratio("clang") for case in cases})]
+    faults = [*unexplained(cases), *told_by_place(places), *limits.faults({case.title: case.ratio("clang") for case in cases})]
     for fault in faults:
         print(f"bench: {fault}")
     return 1 if faults else 0

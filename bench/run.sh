@@ -66,6 +66,7 @@ agree $counted qemu-x86_64
 agree $timed ""
 say "counting instructions, some 15 seconds"
 python3 -B bench/count.py $counted/calls >$work/calls.counts
+python3 -B bench/count.py $counted/calls places >$work/places.counts
 python3 -B bench/count.py $counted/checksums >$work/checksums.counts
 say "timing, some 30 seconds"
 $timed/calls time >$work/calls.times

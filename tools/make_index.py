@@ -1,18 +1,19 @@
 #!/usr/bin/env python3
-"""Makes the index of document 01: each of its sentences by its first words, and the definitions that quote it.
+"""Makes the index of documents 01 and 02: each sentence by its first words, and the definitions that quote it.
 
-    tools/make_index.py DOCUMENT INDEX             writes INDEX
-    tools/make_index.py --check DOCUMENT INDEX     writes nothing, and says whether INDEX is what would be written
+    tools/make_index.py RULES REQUESTS INDEX             writes INDEX
+    tools/make_index.py --check RULES REQUESTS INDEX     writes nothing, and says whether INDEX is what would be written
 
-DOCUMENT is the file of document 01, which is no part of the repository; INDEX is docs/INDEX.md. To be run in the repository's root.
+RULES is the file of document 01 and REQUESTS that of document 02, which are no part of the repository; INDEX is docs/INDEX.md. Of the
+requests those stand in the index that a comment quotes. To be run in the repository's root.
 
 A quotation is a text in quotation marks in a comment of a crate, where the source named last before it, in the comment or else in the
 first comment of the file, is 01 or none. ".." in it stands for words left out. It counts for every sentence that it has words of. Words
 that stand in several sections of 01 count for the section that was named last, else for the first, and fewer than three such words
-for none; of several places in a section the first counts. A quotation belongs to the definition that its comment stands before or
-within, else to its file.
+for none; of several places in a section the first counts. Where the source named last is a request, as T-03, the quotation is of that
+request. A quotation belongs to the definition that its comment stands before or within, else to its file.
 
-Status 0: all is well. 1: INDEX is another, or a comment says that 01 has words that it has not. 2: wrong use, or a file that cannot be
+Status 0: all is well. 1: INDEX is another, or a comment says that 01 or a request has words that it has not. 2: wrong use, or a file that cannot be
 read or written."""
 import collections
 import pathlib
@@ -22,7 +23,8 @@ import sys
 WORDS_SHOWN = 6
 COMMENT = re.compile(r"(?:^[ ]*(?:--|//).*\n)+", re.M)
 QUOTATION = re.compile(r'"([^"]+)"')
-SOURCE = re.compile(r"\b(?:[Dd]emands?|[Ii]nsurer|01|004|000|002)\b(?! [0-9A-F]{2}\b)")
+SOURCE = re.compile(r"\b(?:[Dd]emands?|[Ii]nsurer|01|004|000|002|T-\d\d)\b(?! [0-9A-F]{2}\b)")
+REQUEST = re.compile(r"^\*\*(T-\d\d [^*]*)\.\*\* (.*)$", re.M)
 SECTION = re.compile(r"(?:01, |; )([A-Z][\w ]+)")
 DEFINITION = re.compile(r'(?:(?:unfoldable |abbrev )?(?:pub )?([^\s():]+) :\s'
                         r'|(?:pub(?:\(crate\))? )?(?:extern "C" )?(?:fn|const|record|struct|enum) (\w+)'
@@ -33,7 +35,7 @@ Sentence = collections.namedtuple("Sentence", "begin end")
 
 
 class Misquoted(Exception):
-    """A comment says that 01 has words that it has not."""
+    """A comment says that 01 or a request has words that it has not."""
 
 
 def folded(text):
@@ -51,15 +53,24 @@ def pieces_of(body):
             yield from [piece] if row else re.split(r"(?<=\.)(?<!\d\.\.) (?=[A-Z0-9(\"]|docs/)", piece)
 
 
+def section_of(title, body):
+    """A section: its title, its text, and where each sentence stands in it."""
+    whole, sentences = "", []
+    for sentence in pieces_of(body):
+        sentences.append(Sentence(len(whole), len(whole) + len(sentence)))
+        whole += sentence + " "
+    return Section(folded(title.replace("*", "")), whole, sentences)
+
+
 def sections_of(text):
-    """The sections of document 01: a title, the text, and where each sentence stands in it."""
+    """The sections of document 01."""
     parts = re.split(r"^## (.*)\n", text, flags=re.M)
-    for title, body in zip(parts[1::2], parts[2::2]):
-        whole, sentences = "", []
-        for sentence in pieces_of(body):
-            sentences.append(Sentence(len(whole), len(whole) + len(sentence)))
-            whole += sentence + " "
-        yield Section(folded(title.replace("*", "")), whole, sentences)
+    return [section_of(title, body) for title, body in zip(parts[1::2], parts[2::2])]
+
+
+def requests_of(text):
+    """The requests of document 02, each as a section."""
+    return [section_of(title, body) for title, body in REQUEST.findall(text)]
 
 
 def named_section(words, sections):
@@ -106,34 +117,52 @@ def definition_at(text, comment):
     return found.group(found.lastindex) if found else ""
 
 
-def quotations_in(path, sections):
-    """Each quotation of 01 in a file: the sentences that it has words of, and the definition that it belongs to."""
+def places_in_request(quotation, source, requests):
+    """The sentences of a request that a quotation has words of."""
+    number = next((at for at, request in enumerate(requests) if request.title.startswith(source)), None)
+    if number is None or not spans_in(quotation, requests[number].text):
+        raise Misquoted(f'request {source} does not say "{quotation}"')
+    return [(source, sentence) for _, sentence in sentences_of(quotation, 0, [requests[number]])]
+
+
+def places_in_rules(quotation, source, named, rules):
+    """The sentences of document 01 that a quotation has words of."""
+    if source == "01" and not any(spans_in(quotation, section.text) for section in rules):
+        raise Misquoted(f'document 01 does not say "{quotation}"')
+    return list(sentences_of(quotation, named, rules))
+
+
+def quotations_in(path, rules, requests):
+    """Each quotation of 01 or of a request in a file: the sentences that it has words of, and the definition that it belongs to."""
     text = path.read_text()
     comments = list(COMMENT.finditer(text))
     words = [folded(re.sub(r"^ *(?:--|//)", "", comment.group(), flags=re.M)) for comment in comments]
-    source = (SOURCE.findall(words[0]) or [""])[0] if words else ""
-    section = named_section(words[0], sections) if words else None
+    first = (SOURCE.findall(words[0]) or [""])[0] if words else ""
+    section = named_section(words[0], rules) if words else None
     for comment, said in zip(comments, words):
         for found in QUOTATION.finditer(said):
             before = said[:found.start()]
-            said_of = (SOURCE.findall(before) or [source])[-1]
-            if said_of not in ("01", ""):
-                continue
-            named = named_section(before, sections)
-            places = list(sentences_of(found.group(1), section if named is None else named, sections))
-            if said_of == "01" and not any(spans_in(found.group(1), each.text) for each in sections):
-                raise Misquoted(f'{path}: document 01 does not say "{found.group(1)}"')
-            yield places, definition_at(text, comment)
+            source = (SOURCE.findall(before) or [first])[-1]
+            if source.startswith("T-"):
+                yield places_in_request(found.group(1), source, requests), definition_at(text, comment)
+            elif source in ("01", ""):
+                named = named_section(before, rules)
+                places = places_in_rules(found.group(1), source, section if named is None else named, rules)
+                yield places, definition_at(text, comment)
 
 
-def index_of(sections):
+def index_of(rules, requests):
     """For each sentence, the files and definitions that quote it."""
     index = collections.defaultdict(dict)
     for path in sorted(pathlib.Path("crates").rglob("*")):
-        if path.suffix in (".rt", ".antt"):
-            for places, name in quotations_in(path, sections):
+        if path.suffix not in (".rt", ".antt"):
+            continue
+        try:
+            for places, name in quotations_in(path, rules, requests):
                 for place in places:
                     index[place].setdefault(path, []).append(name)
+        except Misquoted as fault:
+            raise Misquoted(f"{path}: {fault}") from fault
     return index
 
 
@@ -146,20 +175,31 @@ def cell_of(quoting):
     return "; ".join(cells) or "not quoted"
 
 
-def page_of(sections, index):
+def rows_of(section, key, number, index):
+    """The table of a section; `key` is its name in the index, `number` that before each sentence's own."""
+    yield from ["", "| no. | begins | quoted by |", "|---|---|---|"]
+    for place, sentence in enumerate(section.sentences):
+        words = section.text[sentence.begin:sentence.end].replace('"', "'").split()
+        begins = " ".join(words[:WORDS_SHOWN]) + (" .." if len(words) > WORDS_SHOWN else "")
+        yield f'| {number}.{place + 1} | "{begins}" | {cell_of(index.get((key, place), {}))} |'
+
+
+def page_of(rules, requests, index):
     """The index as a page."""
-    whole = sum(len(section.sentences) for section in sections)
-    yield from ["# Index of document 01", "",
-                "Which definitions, laws and functions quote which sentence of document 01 in their comments. A sentence stands here by its",
-                "first words, a row of a table likewise. `make index` writes this page (`tools/make_index.py -h` says by which rules), and the",
-                "gate makes it again where document 01 is at hand (`tests/documents/index.sh`).", "",
-                f"Of {whole} sentences {len(index)} are quoted; the others are marked \"not quoted\"."]
-    for number, section in enumerate(sections):
-        yield from ["", f"## {number + 1}. {section.title}", "", "| no. | begins | quoted by |", "|---|---|---|"]
-        for place, sentence in enumerate(section.sentences):
-            words = section.text[sentence.begin:sentence.end].replace('"', "'").split()
-            begins = " ".join(words[:WORDS_SHOWN]) + (" .." if len(words) > WORDS_SHOWN else "")
-            yield f'| {number + 1}.{place + 1} | "{begins}" | {cell_of(index.get((number, place), {}))} |'
+    whole = sum(len(section.sentences) for section in rules)
+    quoted = sum(isinstance(key, int) for key, _ in index)
+    yield from ["# Index of documents 01 and 02", "",
+                "Which definitions, laws and functions quote which sentence of document 01, and of the requests of document 02 that are built, in",
+                "their comments. A sentence stands here by its first words, a row of a table likewise. `make index` writes this page",
+                "(`tools/make_index.py -h` says by which rules), and the gate makes it again where the documents are at hand",
+                "(`tests/documents/index.sh`).", "",
+                f"Of {whole} sentences of document 01 {quoted} are quoted; the others are marked \"not quoted\"."]
+    for number, section in enumerate(rules):
+        yield from ["", f"## {number + 1}. {section.title}", *rows_of(section, number, number + 1, index)]
+    for request in requests:
+        name = request.title.split()[0]
+        if any(key == name for key, _ in index):
+            yield from ["", f"## {request.title}", *rows_of(request, name, name, index)]
 
 
 def main(arguments):
@@ -168,23 +208,23 @@ def main(arguments):
         return 0
     check = arguments[:1] == ["--check"]
     files = arguments[1:] if check else arguments
-    if len(files) != 2:
+    if len(files) != 3:
         print(__doc__, file=sys.stderr)
         return 2
-    document, page = map(pathlib.Path, files)
+    scope, wishes, page = map(pathlib.Path, files)
     try:
-        sections = list(sections_of(document.read_text()))
-        text = "\n".join(page_of(sections, index_of(sections))) + "\n"
+        rules, requests = sections_of(scope.read_text()), requests_of(wishes.read_text())
+        text = "\n".join(page_of(rules, requests, index_of(rules, requests))) + "\n"
         if not check:
             page.write_text(text)
         elif page.read_text() != text:
-            print(f"{page} is not what document 01 and the crates give: make index SCOPE={document}")
+            print(f"{page} is not what the documents and the crates give: make index SCOPE={scope} REQUESTS={wishes}")
             return 1
     except Misquoted as fault:
         print(fault)
         return 1
     except OSError as error:
-        print(f"{error.filename}: {error.strerror}; SCOPE= names the file of document 01", file=sys.stderr)
+        print(f"{error.filename}: {error.strerror}; SCOPE= names the file of document 01, REQUESTS= that of document 02", file=sys.stderr)
         return 2
     return 0
 

@@ -5,7 +5,7 @@
 
 #include <string.h>
 
-enum { PASSWORD_SIZE = 32, RESET_PASSWORD_SIZE = 16, FRAME_SIZE = 7 };
+enum { RESET_PASSWORD_SIZE = 16, FRAME_SIZE = 7 };
 
 /* Where things stand in a record, and in fields. */
 enum { AT_PHASE, AT_LOCK, AT_WRONG, AT_RATE, AT_SLEEP };
@@ -74,9 +74,9 @@ static size_t fill_body(const struct bench_case *bench_case, const struct board 
         memcpy(body + 4, board->main_flash + 333, bench_case->second);
         return 4 + bench_case->second;
     case PASSWORD:
-    case WRONG_PASSWORD: /* in its last byte, so that all are compared */
+    case WRONG_PASSWORD: /* wrong in the byte `first` */
         memcpy(body, board->fields, PASSWORD_SIZE);
-        body[PASSWORD_SIZE - 1] ^= bench_case->body == WRONG_PASSWORD;
+        body[bench_case->first] ^= bench_case->body == WRONG_PASSWORD;
         return PASSWORD_SIZE;
     case RESET_PASSWORD:
         memcpy(body, board->fields + RESET_AT, RESET_PASSWORD_SIZE);

@@ -4,6 +4,7 @@
  *     calls agree    makes every case on all sides, which must answer and leave the same
  *     calls time     nanoseconds a call: name, detail, bytes, only a size, ours, the model's by gcc and by clang
  *     calls count    each call once, between two marks, for bench/count.py: side, name, detail
+ *     calls places   likewise an Unlock that is wrong in one byte, for each of its places: side, place
  */
 #include "mark.h"
 #include "sides.h"
@@ -48,6 +49,10 @@ static bool all_agree(void)
     bool agree = true;
     for (size_t i = 0; i < bench_case_count; i++)
         agree = case_agrees(&bench_cases[i]) && agree;
+    for (uint32_t place = 0; place < PASSWORD_SIZE; place++) {
+        struct bench_case wrong = wrong_at(place);
+        agree = case_agrees(&wrong) && agree;
+    }
     return agree;
 }
 
@@ -81,15 +86,32 @@ static void time_all(void)
     }
 }
 
+static void count_one(int which)
+{
+    mark();
+    make_calls(&sides[which], 1);
+    mark();
+}
+
 static void count_all(void)
 {
     for (size_t i = 0; i < bench_case_count; i++) {
         begin_case(&bench_cases[i]);
         for (int which = 0; which < NOTHING; which++) {
             printf("%s\t%s\t%s\n", side_names[which], bench_cases[i].name, bench_cases[i].detail);
-            mark();
-            make_calls(&sides[which], 1);
-            mark();
+            count_one(which);
+        }
+    }
+}
+
+static void count_places(void)
+{
+    for (uint32_t place = 0; place < PASSWORD_SIZE; place++) {
+        struct bench_case wrong = wrong_at(place);
+        begin_case(&wrong);
+        for (int which = 0; which < NOTHING; which++) {
+            printf("%s\t%u\n", side_names[which], (unsigned)place);
+            count_one(which);
         }
     }
 }
@@ -104,5 +126,7 @@ int main(int count, char **words)
         time_all();
     if (strcmp(words[1], "count") == 0)
         count_all();
+    if (strcmp(words[1], "places") == 0)
+        count_places();
     return 0;
 }

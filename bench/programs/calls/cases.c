@@ -13,9 +13,10 @@ const struct bench_case bench_cases[] = {
     {"Start application", "", .code = 0x40, .answer = 1},
     {"Change rate", "", .code = 0x52, .body = RATE_ID, .first = 9, .answer = 1},
     {"Unlock", "right", .state = LOCKED, .code = 0x21, .body = PASSWORD, .answer = MESSAGE_REPLY},
-    {"Unlock", "wrong", .state = LOCKED, .code = 0x21, .body = WRONG_PASSWORD, .answer = MESSAGE_REPLY, .message = 2},
+    {"Unlock", "wrong", .state = LOCKED, .code = 0x21, .body = WRONG_PASSWORD, .first = PASSWORD_SIZE - 1,
+     .answer = MESSAGE_REPLY, .message = 2},
     {"Unlock", "wrong, the alert erases 65,536", .bytes = 65 * KIB, .state = TWO_WRONG, .preset = ALERT_RESETS, .code = 0x21,
-     .body = WRONG_PASSWORD, .answer = MESSAGE_REPLY, .message = 3},
+     .body = WRONG_PASSWORD, .first = PASSWORD_SIZE - 1, .answer = MESSAGE_REPLY, .message = 3},
 
     {"Mass erase", "1,024", 1 * KIB, .main_size = 1 * KIB, .code = 0x15, .answer = MESSAGE_REPLY},
     {"Mass erase", "4,096", 4 * KIB, true, .main_size = 4 * KIB, .code = 0x15, .answer = MESSAGE_REPLY},
@@ -85,6 +86,12 @@ const struct bench_case bench_cases[] = {
 };
 
 const size_t bench_case_count = sizeof bench_cases / sizeof *bench_cases;
+
+struct bench_case wrong_at(uint32_t place)
+{
+    return (struct bench_case){"Unlock", "wrong in one byte", .state = LOCKED, .code = 0x21, .body = WRONG_PASSWORD,
+                               .first = place, .answer = MESSAGE_REPLY, .message = 2};
+}
 
 size_t main_size_of(const struct bench_case *bench_case)
 {

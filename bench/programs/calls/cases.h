@@ -8,7 +8,7 @@
 /* What is timed: one call of one function, on a board and with a packet that are made new for it. */
 
 enum { MAIN_MOST = 65536, SETTINGS_SIZE = 1024, RECORD_SIZE = 90, FIELDS_SIZE = 74 };
-enum { REPLY_SIZE = 1729, PACKET_MOST = 1728 };
+enum { REPLY_SIZE = 1729, PACKET_MOST = 1728, PASSWORD_SIZE = 32 };
 
 /* The first of each is what most cases have. */
 enum function { CALL, START, SETTINGS_READ, SETTINGS_WRITE, RATE };
@@ -38,6 +38,9 @@ struct bench_case {
 
 extern const struct bench_case bench_cases[];
 extern const size_t bench_case_count;
+
+/* An Unlock whose password is wrong in one byte, the one at the place. */
+struct bench_case wrong_at(uint32_t place);
 
 size_t main_size_of(const struct bench_case *bench_case);
 size_t reply_size_of(const struct bench_case *bench_case);

@@ -3,8 +3,6 @@
 pub mod CallRules
 -- ExactConnect: which eight bytes are answered in detect.
 pub mod ExactConnect
--- AsBefore: on the MSPM0 no call has moved with the landing of plans and parts; it goes with the next landing.
-pub mod AsBefore
 -- BitsBeyondMain: protection bits for sectors that MAIN does not have do nothing.
 pub mod BitsBeyondMain
 -- NumberRule: every call has an answer, and which numbers of 01 it can have.

@@ -2,16 +2,20 @@
 use mathlib.Core.Path.{_≡_, refl, ap, _∙_}
 use mathlib.Core.Bool.{Bool, true, false, false≢true}
 use mathlib.Core.List.{List, [], _∷_}
-use Prim.Native.Nat.{ℕ, zero, suc, _+_, _≤_, _<_}
+use mathlib.Core.Logic.{by-cases}
+use Prim.Native.Nat.{ℕ, zero, suc, _+_, _-_, _*_, _/_, _≤_, _<_, min}
 use native.Mathlib.Numerals.{add-one}
+use native.Mathlib.Decide.{decLt}
+use native.Mathlib.Nat.{le-of-suc-le-suc, not-suc-le-zero}
 use native.Mathlib.Omega.{arith}
-use borrow.Author.Tests.{eq-eqb, ne-eqb, eqb-true}
+use borrow.Author.Tests.{eq-eqb, ne-eqb, eqb-true, eqb-false}
 use lib.Dec.{eqb}
-use lib.ListN.{length, getD, drop, replicate, drop-of-length-le}
+use lib.Bits.{bitXor, xor-self, xor-lt, xor-add-and, and-le-l, and-le-r, bitAnd}
+use lib.ListN.{length, getD, set, drop, replicate, drop-of-length-le, length-drop}
 use lib.Seq.{drop-cons}
 use Rattle.octets.specs.Choice.{pick}
-use Rattle.octets.proofs.Searching.{pick-true, pick-false, pick-both}
-use Rattle.octets.specs.Alike.{allAre, areSame}
+use Rattle.octets.proofs.Searching.{pick-true, pick-false, pick-both, by-test}
+use Rattle.octets.specs.Alike.{allAre, areSame, differing}
 
 -- a test of all that goes on to the end: what was seen so far, and what is left
 pub seen-stops : (seen next left rest : Bool) → next ≡ false → left ≡ false → pick next rest false ≡ pick seen left false
@@ -57,39 +61,6 @@ replicate-all-are value (suc count) = pick-true _ false (eq-eqb value value refl
 
 -- ---- the same bytes
 
--- from a place on, in lists of one length
-module _ (one other : List ℕ) (i : ℕ) (n : length one ≡ length other) where
-  pub same-next : i < length one → getD one i 0 ≡ getD other i 0
-      → areSame (drop i one) (drop i other) ≡ areSame (drop (i + 1) one) (drop (i + 1) other)
-  unfolding areSame
-  same-next h e =
-      let h₂ : i < length other = omega arith in
-      rw (add-one, drop-cons one i 0, drop-cons other i 0) (pick-true _ false (eq-eqb _ _ e))
-
-  pub same-stops : i < length one → (getD one i 0 ≡ getD other i 0 → ⊥) → areSame (drop i one) (drop i other) ≡ false
-  unfolding areSame
-  same-stops h e =
-      let h₂ : i < length other = omega arith in
-      rw (drop-cons one i 0, drop-cons other i 0) (pick-false _ false (ne-eqb _ _ e))
-
-  pub same-passed : length one ≤ i → areSame (drop i one) (drop i other) ≡ true
-  unfolding areSame
-  same-passed h =
-      let h₂ : length other ≤ i = omega arith in
-      rw (drop-of-length-le one h, drop-of-length-le other h₂)
-
--- lists of two lengths are not the same
-pub other-length : (one other : List ℕ) → (length one ≡ length other → ⊥) → areSame one other ≡ false
-unfolding areSame pick
-other-length [] [] h = absurd (h refl)
-other-length [] (b ∷ bs) h = refl
-other-length (a ∷ rest) [] h = refl
-other-length (a ∷ rest) (b ∷ bs) h = later (eqb a b) (other-length rest bs (λ e. h (ap suc e)))
-  where
-    later : (test : Bool) → areSame rest bs ≡ false → pick test (areSame rest bs) false ≡ false
-    later true e = e
-    later false e = refl
-
 -- the comparison finds what is the same, and nothing else
 pub same-are-equal : (one other : List ℕ) → areSame one other ≡ true → one ≡ other
 unfolding areSame
@@ -104,3 +75,76 @@ pub equal-are-same : (bytes : List ℕ) → areSame bytes bytes ≡ true
 unfolding areSame
 equal-are-same [] = refl
 equal-are-same (b ∷ bytes) = pick-true _ false (eq-eqb b b refl) ∙ equal-are-same bytes
+
+-- ---- how many places differ
+
+some-differ : (count : ℕ) → eqb (suc count) 0 ≡ false
+some-differ count = ne-eqb (suc count) 0 (λ e. omega arith)
+
+-- none differs exactly where they are the same
+pub none-differs : (one other : List ℕ) → eqb (differing one other) 0 ≡ areSame one other
+unfolding differing areSame pick
+none-differs [] [] = refl
+none-differs [] (b ∷ bs) = some-differ (differing [] bs)
+none-differs (a ∷ rest) [] = some-differ (differing rest [])
+none-differs (a ∷ rest) (b ∷ bs) = by-test (eqb a b) (λ y. rw y (none-differs rest bs)) (λ n. rw n (some-differ (differing rest bs)))
+
+-- two numbers whose exclusive or is 0 are the same
+none-of-xor : (a b : ℕ) → bitXor a b ≡ 0 → a ≡ b
+none-of-xor a b e = omega (arith, xor-add-and a b, and-le-l a b, and-le-r a b)
+
+-- what the sum adds for two bytes: 0 for the same, 1 for others
+module _ (a b : ℕ) (h : a < 256) (h₂ : b < 256) where
+  same-adds : a ≡ b → (bitXor a b + 255) / 256 ≡ 0
+  same-adds e = rw (e, xor-self b)
+
+  other-adds : (a ≡ b → ⊥) → (bitXor a b + 255) / 256 ≡ 1
+  other-adds n =
+      let some : bitXor a b ≡ 0 → ⊥ = λ e. n (none-of-xor a b e) in
+      let small : bitXor a b < 256 = xor-lt 8 a b h h₂ in
+      omega (arith, some, small)
+
+-- at a place that both have: what it adds, and what differs after it
+pub counted-here : (one other : List ℕ) (i : ℕ) → i < length one → i < length other → getD one i 0 < 256 → getD other i 0 < 256
+    → (bitXor (getD one i 0) (getD other i 0) + 255) / 256 + differing (drop (i + 1) one) (drop (i + 1) other) ≡ differing (drop i one) (drop i other)
+unfolding differing pick
+counted-here one other i h h₂ f f₂ =
+    let a = getD one i 0 in
+    let b = getD other i 0 in
+    rw (add-one, drop-cons one i 0, drop-cons other i 0)
+    (by-test (eqb a b)
+    (λ y. rw (y, same-adds a b f f₂ (eqb-true a b y)) (omega arith))
+    (λ n. rw (n, other-adds a b f f₂ (eqb-false a b n)) (omega arith)))
+
+-- what only one of them has differs
+one-left : (one : List ℕ) → differing one [] ≡ length one
+unfolding differing
+one-left [] = refl
+one-left (a ∷ rest) = ap suc (one-left rest)
+
+other-left : (other : List ℕ) → differing [] other ≡ length other
+unfolding differing
+other-left [] = refl
+other-left (b ∷ bs) = ap suc (other-left bs)
+
+pub rest-differs : (one other : List ℕ) (i : ℕ) → i ≡ min (length one) (length other)
+    → differing (drop i one) (drop i other) ≡ (length one - i) + (length other - i)
+rest-differs one other i e =
+    by-cases (decLt (length other) (length one))
+    (λ h.
+    let past : length other ≤ i = omega arith in
+    rw (drop-of-length-le other past) (one-left (drop i one) ∙ (omega (arith, length-drop i one))))
+    (λ n.
+    let past : length one ≤ i = omega arith in
+    rw (drop-of-length-le one past) (other-left (drop i other) ∙ (omega (arith, length-drop i other))))
+
+-- each place counts, wherever others differ: where a byte that differs is put right, one fewer differs
+pub every-place-counts : (one other : List ℕ) (i : ℕ) → i < length one → i < length other → (getD one i 0 ≡ getD other i 0 → ⊥)
+    → differing one other ≡ suc (differing (set one i (getD other i 0)) other)
+unfolding differing pick
+every-place-counts [] other i h h₂ n = absurd (not-suc-le-zero h)
+every-place-counts (a ∷ rest) [] i h h₂ n = absurd (not-suc-le-zero h₂)
+every-place-counts (a ∷ rest) (b ∷ bs) zero h h₂ n = rw (ne-eqb a b n, eq-eqb b b refl) refl
+every-place-counts (a ∷ rest) (b ∷ bs) (suc i) h h₂ n =
+    let later = every-place-counts rest bs i (le-of-suc-le-suc h) (le-of-suc-le-suc h₂) n in
+    by-test (eqb a b) (λ y. rw y later) (λ d. rw d (ap suc later))

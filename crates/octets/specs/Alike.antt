@@ -1,5 +1,5 @@
--- Bytes that are all one value, and bytes that are the same.
-use Prim.Native.Nat.{ℕ}
+-- Bytes that are all one value, bytes that are the same, and how many differ.
+use Prim.Native.Nat.{ℕ, suc}
 use mathlib.Core.Bool.{Bool, true, false}
 use mathlib.Core.List.{List, [], _∷_}
 use lib.Dec.{eqb}
@@ -16,3 +16,10 @@ areSame [] [] = true
 areSame [] (other ∷ others) = false
 areSame (one ∷ ones) [] = false
 areSame (one ∷ ones) (other ∷ others) = pick (eqb one other) (areSame ones others) false
+
+-- T-03: "go over every byte of both passwords, with no early way out". How many places differ; one that only one of the two has differs.
+unfoldable pub differing : List ℕ → List ℕ → ℕ
+differing [] [] = 0
+differing [] (other ∷ others) = suc (differing [] others)
+differing (one ∷ ones) [] = suc (differing ones [])
+differing (one ∷ ones) (other ∷ others) = pick (eqb one other) (differing ones others) (suc (differing ones others))

@@ -1,6 +1,6 @@
-// The password comparisons: that of Unlock, and that of Factory reset. A password is compared only where it is asked for; then
-// every byte is looked at, also after one that differs (`octets::comparing::are_same`). That is to be read there: no promise says
-// how a comparison is made, or how long it takes.
+// The password comparisons: that of Unlock, and that of Factory reset. `octets::comparing::differing` goes over every byte of both passwords,
+// also after one that differs, and promises how many differ, which nobody can tell who stops before the end; no branch there hangs on a byte.
+// No proof says how long that takes, or what a compiler makes of it (`docs/BENCH.md` has what was counted). Other packets are not compared.
 ghost use mathlib.Core.Path.{_≡_};
 ghost use Prim.Native.Nat.{ℕ};
 ghost use Rattle.octets.specs.Alike.{areSame};
@@ -21,11 +21,15 @@ const PASSWORD_SIZE: usize = 32;
 
 const RESET_PASSWORD_SIZE: usize = 16;
 
-// The bit of which the judge hears: whether an Unlock carries the password. Of another packet it is judged alike.
+// The bit of which the judge hears: whether an Unlock carries the password. A packet with another command byte, or one that ends before a
+// password would, is no Unlock, and is judged alike.
 pub(crate) fn unlocks(password: &[u8], packet: &[u8]) -> bool
     ensures { λ r. ⌜ ((standing : Standing) (lastRate alert wait : ℕ) → judgedOf lastRate standing alert wait (now (packet .entry)) r ≡ judgedOf lastRate standing alert wait (now (packet .entry)) (areSame (now (password .entry)) (passwordIn (now (packet .entry))))) ⌝ }
 {
     if octets::byte_at(packet, CORE_AT) != codes::UNLOCK {
+        return false;
+    }
+    if packet.len() < FIRST_AT + PASSWORD_SIZE {
         return false;
     }
     octets::are_same(password, octets::part_of(packet, FIRST_AT, PASSWORD_SIZE))

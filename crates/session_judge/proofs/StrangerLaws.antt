@@ -2,7 +2,7 @@
 use mathlib.Core.Path.{_≡_, refl, sym, ap, _∙_}
 use mathlib.Core.Bool.{Bool, true, false, true≢false}
 use mathlib.Core.List.{List}
-use Prim.Native.Nat.{ℕ}
+use Prim.Native.Nat.{ℕ, _<_}
 use native.Mathlib.Omega.{arith}
 use borrow.Author.Tests.{eqb-true, ne-eqb}
 use lib.Dec.{eqb}
@@ -16,6 +16,7 @@ use Rattle.line.specs.Packet.{codeIn}
 use Rattle.line.specs.Acknowledgement.{acknowledgement}
 use Rattle.line.specs.Commands.{commandOf}
 use Rattle.line.proofs.CommandLaws.{Stands, read-stands}
+use Rattle.line.proofs.AcknowledgementLaws.{acknowledged-is-framed}
 use Rattle.session_state.specs.declared.Phase.{Phase}
 use Rattle.session_state.specs.declared.Phase.the-variants as phase
 use Rattle.session_state.specs.declared.Standing.{Standing}
@@ -70,14 +71,22 @@ module _ (lastRate alert : ℕ) (right : Bool) where
         ap (λ (heard : Judged). pick (after .heard) (pick (eqb (length packet) 0) (silently (after .standing)) heard) (silently (after .standing)))
         (by-phase (after .standing) (after .standing .phase))
 
+-- what an Unlock has: its command byte, and L 33
+unlock-stands : (packet : List ℕ) → commandOf packet ≡ command.Unlock → Stands packet command.Unlock
+unlock-stands packet e = rw e at (read-stands packet)
+
 -- a packet with another command byte is no Unlock
 pub others-are-not-compared : (lastRate : ℕ) (packet : List ℕ) → (codeIn packet ≡ codes.unlock → ⊥) → (standing : Standing) (alert wait : ℕ) (right : Bool)
     → judgedOf lastRate standing alert wait packet right ≡ judgedOf lastRate standing alert wait packet false
 others-are-not-compared lastRate packet other standing alert wait right =
-    only-unlock-is-compared lastRate alert right packet (λ a e. absurd (other (unlock-stands e .0))) standing wait
-  where
-    unlock-stands : commandOf packet ≡ command.Unlock → Stands packet command.Unlock
-    unlock-stands e = rw e at (read-stands packet)
+    only-unlock-is-compared lastRate alert right packet (λ a e. absurd (other (unlock-stands packet e .0))) standing wait
+
+-- nor is one that ends before a password does
+pub short-are-not-compared : (lastRate : ℕ) (packet : List ℕ) → length packet < 36 → (standing : Standing) (alert wait : ℕ) (right : Bool)
+    → judgedOf lastRate standing alert wait packet right ≡ judgedOf lastRate standing alert wait packet false
+short-are-not-compared lastRate packet short standing alert wait right =
+    only-unlock-is-compared lastRate alert right packet
+    (λ a e. absurd (omega (arith, short, unlock-stands packet e .1, acknowledged-is-framed lastRate packet a .size))) standing wait
 
 -- ---- the third wrong password
 
