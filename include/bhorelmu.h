@@ -8,8 +8,8 @@
 #include <stddef.h>
 #include <stdint.h>
 
-#define BHORELMU_VERSION "1.0.1"
-#define BHORELMU_VERSION_NUMBER 10001 /* 10,000 for each major version, 100 for each minor, 1 for each patch */
+#define BHORELMU_VERSION "1.0.2"
+#define BHORELMU_VERSION_NUMBER 10002 /* 10,000 for each major version, 100 for each minor, 1 for each patch */
 
 /*
  * The device side of one boot loader session, on numbers and byte areas. docs/RECORD.md tells the same at length, and

@@ -44,7 +44,7 @@ password compared with the flash@s/memcmp(core + 1, loader->fields + PASSWORD,/m
 message sent after 0x24@s/^        program(loader, core, length);/        return send_message(reply, program(loader, core, length));/
 address and size added in 32 bits@/^static uint8_t \*locate/,/^}/s/    if (first < loader->main_size)$/    if (first >= loader->main_size \&\& (uint32_t)(first + count) <= loader->main_size) return loader->main_flash;\n&/
 settings one byte longer@s/count <= SETTINGS_SIZE - offset/count <= SETTINGS_SIZE + 1 - offset/
-alignment before range@s/^    if (place == NULL)/    if (place == NULL \&\& first % 8 == 0 \&\& count % 8 == 0)/
+alignment before range@/^static enum message program/,/^}/s/    if (place == NULL)/    if (place == NULL \&\& first % 8 == 0 \&\& count % 8 == 0)/
 alignment to 4@s/PROGRAM_UNIT = 8/PROGRAM_UNIT = 4/
 data size need not be aligned@s/first % PROGRAM_UNIT != 0 || count % PROGRAM_UNIT != 0/first % PROGRAM_UNIT != 0/
 program writes instead of AND@s/place\[i\] &= data\[i\]/place[i] = data[i]/

@@ -300,7 +300,7 @@ enum message {
 
 enum core_reply { MEMORY = 0x30, DEVICE_INFO = 0x31, VERIFY_CHECKSUM = 0x32, MESSAGE = 0x3B };
 
-enum { READ_BACK_LARGEST = CORE_LARGEST - 1, VERIFY_LEAST = 1024, VERIFY_LARGEST = 65536, PROGRAM_UNIT = 8 };
+enum { READ_BACK_LARGEST = CORE_LARGEST - 1, VERIFY_LEAST = 1024, PROGRAM_UNIT = 8 };
 
 static bool is_known(uint8_t command)
 {
@@ -503,7 +503,7 @@ static size_t verify(const struct loader *loader, const uint8_t *core, uint8_t *
     const uint8_t *place = locate(loader, get32(core + 1), count);
     if (count < VERIFY_LEAST)
         return send_message(reply, VERIFY_TOO_SHORT);
-    if (count > VERIFY_LARGEST || place == NULL)
+    if (place == NULL)
         return send_message(reply, RANGE_INVALID);
     reply[0] = VERIFY_CHECKSUM;
     put32(reply + 1, checksum(place, count));

@@ -15,3 +15,5 @@ pub mod RecordRule
 pub mod BoundaryRule
 -- ScriptRule: a script keeps the form exactly where it is made of entries.
 pub mod ScriptRule
+-- VerifyRule: a test that Verify had changed no reply.
+pub mod VerifyRule

@@ -9,5 +9,7 @@ pub mod TwoBoards
 pub mod TwoBoardsFromC
 -- Visits: the same for a person who chooses each wait and packet by the replies so far.
 pub mod Visits
+-- VerifyLimit: Verify with the test that it had.
+pub mod VerifyLimit
 -- Trials: boards and packets on which it is tried.
 pub mod Trials

@@ -2,7 +2,9 @@
 use mathlib.Core.Path.{_≡_, sym, ap, _∙_}
 use mathlib.Core.Bool.{true, false}
 use Prim.Native.Nat.{ℕ, _+_, _-_, _≤_, _<_}
+use mathlib.Core.Logic.{by-cases}
 use native.Mathlib.Nat.{sub-zero}
+use native.Mathlib.Decide.{decLt}
 use native.Mathlib.Omega.{arith}
 use lib.Dec.{leb}
 use lib.ListN.{length, length-take}
@@ -114,6 +116,15 @@ module _ (part : Part) (mainSize first count : ℕ) where
       → placeOf part mainSize first count ≡ nowhere
   unfolding placeOf
   outside-is-told n o = pick-false _ _ (range-past mainStart mainSize first count (omega arith)) ∙ pick-false _ _ o
+
+-- a range that is larger than every region lies in none
+pub too-large-is-outside : (part : Part) (mainSize first count : ℕ) → mainSize < count → part .«settings_size» < count
+    → placeOf part mainSize first count ≡ nowhere
+too-large-is-outside part mainSize first count large larger =
+    outside-is-told part mainSize first count (omega arith)
+    (by-cases (decLt first (part .«settings_start»))
+    (λ h. range-before (part .«settings_start») (part .«settings_size») first count h)
+    (λ n. range-past (part .«settings_start») (part .«settings_size») first count (omega arith)))
 
 -- 01, Marked cases, sides of limits: "Address 0xFFFFFFF8 with 16 bytes is 05 and never wraps."
 pub last-addresses-are-outside : (part : Part) (mainSize : ℕ) → mainSize ≤ part .«most_main» → part .«most_main» ≤ 0xFFFFFFFF

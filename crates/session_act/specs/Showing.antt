@@ -33,13 +33,12 @@ readBackAt readout size place =
 abbrev pub readBack : Part → ℕ → ℕ → ℕ → ℕ → Planned
 readBack part readout mainSize address size = readBackAt readout size (placeOf part mainSize address size)
 
--- "0x26 Verify, protected, L 9: size under 1,024: 0B; size above 65,536: 05; not in one region 05; else 32 and the checksum."
+-- "0x26 Verify, protected, L 9: size under 1,024: 0B; .. not in one region 05; else 32 and the checksum."; T-07: "01's list loses the line"
+-- that stood between.
 unfoldable pub verifyAt : Part → ℕ → Memory → Place → Reply
 verifyAt part size memory place =
     pick (ltb size (part .«least_verify»)) (Message codes.tooSmall)
-    (pick (ltb (part .«most_main») size) (Message codes.invalidRange)
-    (pick (isOutside (place .region)) (Message codes.invalidRange)
-    (Sum (checksumOf (bytesAt place size memory)))))
+    (pick (isOutside (place .region)) (Message codes.invalidRange) (Sum (checksumOf (bytesAt place size memory))))
 
 -- the place is that of so many bytes from the address on
 abbrev pub verify : Part → ℕ → ℕ → ℕ → Memory → Planned

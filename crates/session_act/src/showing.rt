@@ -59,12 +59,8 @@ pub(crate) fn verify<'a>(
     ensures { λ r. ⌜ r ≡ verifyAt part size (memory (now (main .entry)) (now (image .entry))) (placeOf part «main_size» address size) ⌝ }
 {
     let least = part.least_verify;
-    let most = part.most_main;
     if size < least {
         return Reply::Message(codes::TOO_SMALL);
-    }
-    if most < size {
-        return Reply::Message(codes::INVALID_RANGE);
     }
     let place = flash::locate(part, main_size, address, size as u64);
     let region = place.region;

@@ -13,10 +13,9 @@ verify-spec =
     tie.close
     (tie.spec
     (λ c. rw (lt-ltb _ _ (c .if1 .taken)))
-    (λ c. rw (le-ltb _ _ (c .before .if1 .left), lt-ltb _ _ (c .if2 .taken)))
     (λ c κs. search needs)
     (λ c. search needs)
-    (λ c. rw (le-ltb _ _ (c .before .before .before .before .if1 .left), le-ltb _ _ (c .before .before .before .if2 .left), ← c .before .before .locate .ensures, c .enum-told .given .1))
+    (λ c. rw (le-ltb _ _ (c .before .before .before .if1 .left), ← c .before .before .locate .ensures, c .enum-told .given .1))
     (λ c κs. search needs)
     (λ c κs. search needs)
-    (λ c. rw (le-ltb _ _ (c .before .before .before .before .before .if1 .left), le-ltb _ _ (c .before .before .before .before .if2 .left), ← c .before .before .before .locate .ensures, not-outside (c .before .before .before .locate .result .region) (c .before .before .match .keys2), c .checksum-of .ensures, c .before .bytes-in .ensures)))
+    (λ c. rw (le-ltb _ _ (c .before .before .before .before .if1 .left), ← c .before .before .before .locate .ensures, not-outside (c .before .before .before .locate .result .region) (c .before .before .match .keys2), c .checksum-of .ensures, c .before .bytes-in .ensures)))
