@@ -8,8 +8,8 @@
 #include <stddef.h>
 #include <stdint.h>
 
-#define BHORELMU_VERSION "1.0.2"
-#define BHORELMU_VERSION_NUMBER 10002 /* 10,000 for each major version, 100 for each minor, 1 for each patch */
+#define BHORELMU_VERSION "1.1.0"
+#define BHORELMU_VERSION_NUMBER 10100 /* 10,000 for each major version, 100 for each minor, 1 for each patch */
 
 /*
  * The device side of one boot loader session, on numbers and byte areas. docs/RECORD.md tells the same at length, and
@@ -112,7 +112,7 @@ uint64_t bhorelmu_start(uint32_t fuse, const uint8_t *main_flash, size_t main_si
  * Lets `wait` milliseconds pass since the call before, or since start, then takes one packet, perhaps empty, and updates
  * the record and both flash areas. Refusals 9, then 10 for an area that is no record's, for a MAIN of another size than
  * the record says, and for settings that are not 1,024 bytes. Bytes past the reply stay as lent.
- * Stack: 544 bytes on x86-64, 536 on thumbv6m.
+ * Stack: 528 bytes on x86-64, 616 on thumbv6m.
  */
 uint64_t bhorelmu_call(uint8_t *record, size_t record_size, uint8_t *main_flash, size_t main_size, uint8_t *settings,
                        size_t settings_size, uint32_t wait, const uint8_t *packet, size_t packet_size, uint8_t *reply,

@@ -1,4 +1,5 @@
-/* Checks of the C boundary: each refusal and their order, each byte of a record, sizes one off, and what stays untouched. */
+/* Checks of the C boundary: each refusal and their order, each byte of a record, sizes one off, what stays untouched, and
+   protected places. */
 
 #include "bhorelmu.h"
 
@@ -261,6 +262,92 @@ static void check_field_names(void)
     check("the zero byte", 8ULL << 56, bhorelmu_settings_write(areas.fields, 74, areas.settings, 1024));
 }
 
+enum { CORE_MOST = 33, NO_MESSAGE = 0x100 };
+
+/* Sends a core. What is told: the number of the message, or NO_MESSAGE where 00 is all that is sent. */
+static unsigned told(struct areas *areas, const uint8_t *core, size_t length)
+{
+    uint8_t packet[CORE_MOST + 7] = {0x80, (uint8_t)length, 0x00};
+    uint32_t sum = checksum(core, length);
+    memcpy(packet + 3, core, length);
+    for (unsigned i = 0; i < 4; i++)
+        packet[3 + length + i] = (uint8_t)(sum >> 8 * i);
+    uint64_t answer = call(areas, right_sizes, packet, length + 7);
+    check("acknowledged", 0x00, areas->reply[0]);
+    if (answer == 1)
+        return NO_MESSAGE;
+    check("a message's size", 10, answer);
+    check("a message's code", 0x3B, areas->reply[4]);
+    return areas->reply[5];
+}
+
+/* An unlocked board whose sector 1 and settings are protected. MAIN holds 0x5A, so that both an erase and a Program show. */
+static struct areas protected_board(void)
+{
+    uint8_t unlock[33] = {0x21};
+    struct areas areas = blank_board();
+    write_image(&areas);
+    areas.fields[BHORELMU_FIELD_SETTINGS_PROTECTED] = 1;
+    areas.fields[BHORELMU_FIELD_PROTECTION] = 1 << 1;
+    check("protected settings", 0, bhorelmu_settings_write(areas.fields, 74, areas.settings, 1024));
+    memset(areas.main_flash, 0x5A, sizeof areas.main_flash);
+    check("start with them", 0, start(&areas, 0, MAIN_SIZE, 1024, BHORELMU_RECORD_SIZE));
+    call(&areas, right_sizes, connect_packet, sizeof connect_packet);
+    memset(unlock + 1, 0xFF, 32);
+    check("Unlock", 0x00, told(&areas, unlock, sizeof unlock));
+    return areas;
+}
+
+/* What would touch a protected place is refused whole; the data are zeros. */
+static void check_refused_places(void)
+{
+    static const struct {
+        const char *what;
+        unsigned message;
+        size_t length;
+        uint8_t core[CORE_MOST];
+    } tries[] = {
+        {"Program in sector 1", 0x05, 13, {0x20, 0x00, 0x04}},
+        {"Program up to it and into it", 0x05, 21, {0x20, 0xF8, 0x03}},
+        {"Program from it and out of it", 0x05, 21, {0x20, 0xF8, 0x07}},
+        {"Program of the settings", 0x05, 13, {0x20, 0x00, 0x02, 0xC0, 0x41}},
+        {"not aligned is told first", 0x0A, 13, {0x20, 0x04, 0x04}},
+        {"0x24 into it", NO_MESSAGE, 21, {0x24, 0xF8, 0x03}},
+        {"0x24 of the settings", NO_MESSAGE, 13, {0x24, 0x00, 0x02, 0xC0, 0x41}},
+        {"Range erase into it", 0x05, 9, {0x23, 0xFF, 0x03, 0x00, 0x00, 0x00, 0x04}},
+        {"Range erase out of it", 0x05, 9, {0x23, 0xFF, 0x07, 0x00, 0x00, 0x00, 0x08}},
+        {"Range erase over it", 0x05, 9, {0x23, 0x00, 0x00, 0x00, 0x00, 0xFF, 0x0F}},
+    };
+    struct areas areas = protected_board();
+    struct areas before = areas;
+    for (size_t i = 0; i < sizeof tries / sizeof *tries; i++) {
+        check(tries[i].what, tries[i].message, told(&areas, tries[i].core, tries[i].length));
+        check("MAIN is as it was", 0, (unsigned)memcmp(before.main_flash, areas.main_flash, MAIN_SIZE) != 0);
+        check("so are the settings", 0, (unsigned)memcmp(before.settings, areas.settings, sizeof areas.settings) != 0);
+    }
+}
+
+/* What lies beside them is served, and an erase of all passes over them. */
+static void check_skipped_places(void)
+{
+    static const uint8_t before[13] = {0x20, 0xF8, 0x03}, after[13] = {0x20, 0x00, 0x08};
+    static const uint8_t sector[9] = {0x23, 0x00, 0x0C, 0x00, 0x00, 0xFF, 0x0F};
+    static const uint8_t mass_erase[] = {0x15}, factory_reset[] = {0x30};
+    struct areas areas = protected_board();
+    struct areas started = areas;
+    check("Program up to sector 1", 0x00, told(&areas, before, sizeof before));
+    check("Program from sector 2 on", 0x00, told(&areas, after, sizeof after));
+    check("both are done", 0, areas.main_flash[1023] | areas.main_flash[2048]);
+    check("Range erase of sector 3", 0x00, told(&areas, sector, sizeof sector));
+    check("it is done", 0xFF, areas.main_flash[3072] & areas.main_flash[4095]);
+    check("Mass erase", 0x00, told(&areas, mass_erase, sizeof mass_erase));
+    for (size_t place = 0; place < MAIN_SIZE; place++)
+        check("all but sector 1 are erased", place / 1024 == 1 ? 0x5A : 0xFF, areas.main_flash[place]);
+    check("Factory reset", 0x00, told(&areas, factory_reset, sizeof factory_reset));
+    check("the settings stay", 0, (unsigned)memcmp(started.settings, areas.settings, sizeof areas.settings) != 0);
+    check("so does sector 1", 0, (unsigned)memcmp(started.main_flash + 1024, areas.main_flash + 1024, 1024) != 0);
+}
+
 static void check_rates(void)
 {
     static const uint32_t rates[] = {0, 4800, 9600, 19200, 38400, 57600, 115200, 1000000, 2000000, 3000000, 0};
@@ -279,6 +366,8 @@ int main(void)
     check_layout();
     check_fields();
     check_field_names();
+    check_refused_places();
+    check_skipped_places();
     check_rates();
     printf("%u checks, %u failed\n", checks, failures);
     return failures != 0;

@@ -47,10 +47,26 @@ settings one byte longer@s/count <= SETTINGS_SIZE - offset/count <= SETTINGS_SIZ
 alignment before range@/^static enum message program/,/^}/s/    if (place == NULL)/    if (place == NULL \&\& first % 8 == 0 \&\& count % 8 == 0)/
 alignment to 4@s/PROGRAM_UNIT = 8/PROGRAM_UNIT = 4/
 data size need not be aligned@s/first % PROGRAM_UNIT != 0 || count % PROGRAM_UNIT != 0/first % PROGRAM_UNIT != 0/
-program writes instead of AND@s/place\[i\] &= data\[i\]/place[i] = data[i]/
-program ignores protected sectors@s/if (!sector_protected(loader, first \/ SECTOR_SIZE))/if (1)/
-program looks only at the first sector@s/uint32_t part = SECTOR_SIZE - first % SECTOR_SIZE;/uint32_t part = count;/
-program ignores protected settings@s/else if (!loader->fields\[SETTINGS_PROTECTED\])/else/
+program writes instead of AND@s/place\[i\] &= core\[5 + i\]/place[i] = core[5 + i]/
+program ignores protected sectors@s/if (range_protected(loader, first,/if (first >= loader->main_size \&\& range_protected(loader, first,/
+program ignores protected settings@s/if (range_protected(loader, first,/if (first < loader->main_size \&\& range_protected(loader, first,/
+settings' bit taken for set@s/return loader->fields\[SETTINGS_PROTECTED\];/return true;/
+only the first sector looked at@s/sector <= last \/ SECTOR_SIZE/sector <= first \/ SECTOR_SIZE/
+only the last sector looked at@s/uint32_t sector = first \/ SECTOR_SIZE/uint32_t sector = last \/ SECTOR_SIZE/
+the sector after the range looked at too@s/sector <= last \/ SECTOR_SIZE/sector <= (last + 1) \/ SECTOR_SIZE/
+protected Program answers 00 and writes nothing@/if (range_protected(loader, first,/{n;s/RANGE_INVALID/DONE/}
+protected Program writes the open sectors@s/^    if (range_protected(loader, first,/    for (uint32_t i = 0; i < count \&\& first < loader->main_size \&\& core[0] == PROGRAM; i++) if (!sector_protected(loader, (first + i) \/ SECTOR_SIZE)) place[i] \&= core[5 + i];\n&/
+protected 0x24 writes the open sectors@s/^    if (range_protected(loader, first,/    for (uint32_t i = 0; i < count \&\& first < loader->main_size \&\& core[0] == PROGRAM_FAST; i++) if (!sector_protected(loader, (first + i) \/ SECTOR_SIZE)) place[i] \&= core[5 + i];\n&/
+0x24 ignores protection@s/if (range_protected(loader, first,/if (core[0] != PROGRAM_FAST \&\& range_protected(loader, first,/
+protected before 0A@s/^    if (first % PROGRAM_UNIT != 0 ||/    if (range_protected(loader, first, first + count - 1)) return RANGE_INVALID;\n&/
+range erase skips protected sectors and answers 00@s/if (range_protected(loader, start, end))/if (0)/
+range erase of protected sectors answers 00 and erases nothing@/if (range_protected(loader, start, end))/{n;s/RANGE_INVALID/DONE/}
+range erase erases the open sectors and answers 05@s/^    if (range_protected(loader, start, end))/    if (range_protected(loader, start, end)) erase_sectors(loader, start \/ SECTOR_SIZE, end \/ SECTOR_SIZE);\n&/
+Mass erase refused for a protected sector@s/^    case MASS_ERASE:$/&\n        if (range_protected(loader, 0, loader->main_size - 1)) return send_message(reply, RANGE_INVALID);/
+Factory reset refused for a protected sector@/^static enum message factory_reset/,/^}/s/^    erase_everything(loader);/    if (range_protected(loader, 0, loader->main_size - 1)) return RANGE_INVALID;\n&/
+alert erases nothing where a sector is protected@s/^        erase_everything(loader);/        if (!range_protected(loader, 0, loader->main_size - 1)) erase_everything(loader);/
+Read back refuses a protected sector@/^static size_t read_back/,/^}/s/ || place == NULL)/ || place == NULL || range_protected(loader, get32(core + 1), get32(core + 1) + count - 1))/
+Verify refuses a protected sector@/^static size_t verify/,/^}/s/(place == NULL)/(place == NULL || range_protected(loader, get32(core + 1), get32(core + 1) + count - 1))/
 erase ignores protected sectors@s/        if (!sector_protected(loader, sector))/        if (1)/
 erase ignores protected settings@s/^    if (!loader->fields\[SETTINGS_PROTECTED\])/    if (1)/
 protection bits from the other end@s/>> sector % 8 & 1/>> (7 - sector % 8) \& 1/

@@ -1,4 +1,4 @@
-/* The sections stand in the order of document 01. */
+/* The sections stand in the order of document 01. Where a request of document 02 is built, its rule stands in their place. */
 
 #include "model.h"
 
@@ -375,24 +375,15 @@ static uint8_t *locate(const struct loader *loader, uint32_t first, uint32_t cou
     return NULL;
 }
 
-static void program_bytes(uint8_t *place, const uint8_t *data, size_t count)
+/* Whether a range has a protected place; its first and its last address lie in one region. */
+static bool range_protected(const struct loader *loader, uint32_t first, uint32_t last)
 {
-    for (size_t i = 0; i < count; i++)
-        place[i] &= data[i];
-}
-
-static void program_main(struct loader *loader, uint32_t first, const uint8_t *data, uint32_t count)
-{
-    while (count > 0) {
-        uint32_t part = SECTOR_SIZE - first % SECTOR_SIZE;
-        if (part > count)
-            part = count;
-        if (!sector_protected(loader, first / SECTOR_SIZE))
-            program_bytes(loader->main_flash + first, data, part);
-        first += part;
-        data += part;
-        count -= part;
-    }
+    if (first >= loader->main_size)
+        return loader->fields[SETTINGS_PROTECTED];
+    for (uint32_t sector = first / SECTOR_SIZE; sector <= last / SECTOR_SIZE; sector++)
+        if (sector_protected(loader, sector))
+            return true;
+    return false;
 }
 
 static enum message program(struct loader *loader, const uint8_t *core, size_t length)
@@ -404,10 +395,10 @@ static enum message program(struct loader *loader, const uint8_t *core, size_t l
         return RANGE_INVALID;
     if (first % PROGRAM_UNIT != 0 || count % PROGRAM_UNIT != 0)
         return NOT_ALIGNED;
-    if (first < loader->main_size)
-        program_main(loader, first, core + 5, count);
-    else if (!loader->fields[SETTINGS_PROTECTED])
-        program_bytes(place, core + 5, count);
+    if (range_protected(loader, first, first + count - 1))
+        return RANGE_INVALID;
+    for (uint32_t i = 0; i < count; i++)
+        place[i] &= core[5 + i];
     return DONE;
 }
 
@@ -416,6 +407,8 @@ static enum message range_erase(struct loader *loader, const uint8_t *core)
     uint32_t start = get32(core + 1);
     uint32_t end = get32(core + 5);
     if (start > end || end >= loader->main_size)
+        return RANGE_INVALID;
+    if (range_protected(loader, start, end))
         return RANGE_INVALID;
     erase_sectors(loader, start / SECTOR_SIZE, end / SECTOR_SIZE);
     return DONE;

@@ -5,8 +5,9 @@
 #include <stdint.h>
 
 /*
- * The loader of document 01 a second time, in plain C and from the document alone. verification/compare holds the product
- * against it, and the speed figures are measured beside it. Areas, records and answers are those of bhorelmu.h.
+ * The loader of document 01 a second time, with the requests of document 02 that are built, in plain C and from the two
+ * documents alone. verification/compare holds the product against it, and the speed figures are measured beside it. Areas,
+ * records and answers are those of bhorelmu.h.
  */
 
 uint64_t model_start(uint32_t fuse, const uint8_t *main_flash, size_t main_size, const uint8_t *settings,

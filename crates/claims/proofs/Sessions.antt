@@ -17,3 +17,5 @@ pub mod BoundaryRule
 pub mod ScriptRule
 -- VerifyRule: a test that Verify had changed no reply.
 pub mod VerifyRule
+-- ProtectedRule: Range erase and Program are refused exactly where they would touch a protected place.
+pub mod ProtectedRule

@@ -1,11 +1,12 @@
 -- What an answer of the range check says of the range, and how many bytes a range has.
 use mathlib.Core.Path.{_≡_, sym, ap, _∙_}
 use mathlib.Core.Bool.{true, false}
-use Prim.Native.Nat.{ℕ, _+_, _-_, _≤_, _<_}
+use Prim.Native.Nat.{ℕ, _+_, _-_, _*_, _/_, _≤_, _<_}
 use mathlib.Core.Logic.{by-cases}
-use native.Mathlib.Nat.{sub-zero}
+use native.Mathlib.Nat.{sub-zero, div-mul-le-self}
 use native.Mathlib.Decide.{decLt}
 use native.Mathlib.Omega.{arith}
+use mathlib.Core.List.{List, [], _∷_}
 use lib.Dec.{leb}
 use lib.ListN.{length, length-take}
 use borrow.Author.Tests.{leb-true, le-leb, lt-leb}
@@ -15,8 +16,10 @@ use Rattle.parts.specs.declared.Part.{Part}
 use Rattle.flash.specs.declared.Place.{Place}
 use Rattle.flash.specs.declared.Region.{Region}
 use Rattle.flash.specs.declared.Region.the-variants.{Main, Settings, Outside}
-use Rattle.flash.specs.Regions.{mainStart, isMainSize, liesWithin, placeIn, nowhere, placeOf}
+use Rattle.flash.specs.Regions.{mainStart, isMainSize, liesWithin, placeFrom, placeIn, nowhere, placeOf}
 use Rattle.flash.specs.Memory.{Memory, bytesIn}
+use Rattle.flash.specs.Protection.{isProtected}
+use Rattle.flash.proofs.KeptLaws.{kept-alike}
 
 -- ---- sizes of MAIN
 
@@ -54,12 +57,22 @@ number Main = 0
 number Settings = 1
 number Outside = 2
 
-module _ (part : Part) (mainSize first count : ℕ) where
+module _ (part : Part) (mainSize : ℕ) (protection : List ℕ) (settingsBit first count : ℕ) where
+  -- the place that the check answers
+  abbrev told-of : Place
+  told-of = placeOf part mainSize protection settingsBit first count
+
+  abbrev in-main : Place
+  in-main = placeIn Main (part .«sector_size») protection mainStart first count
+
+  abbrev in-settings : Place
+  in-settings = placeIn Settings (part .«sector_size») (settingsBit ∷ []) (part .«settings_start») first count
+
   -- the three answers, one after the other
   by-answer : {C : Type 0}
-      → (liesWithin mainStart mainSize first count ≡ true → placeOf part mainSize first count ≡ placeIn Main mainStart first → C)
-      → (liesWithin (part .«settings_start») (part .«settings_size») first count ≡ true → placeOf part mainSize first count ≡ placeIn Settings (part .«settings_start») first → C)
-      → (placeOf part mainSize first count ≡ nowhere → C) → C
+      → (liesWithin mainStart mainSize first count ≡ true → told-of ≡ in-main → C)
+      → (liesWithin (part .«settings_start») (part .«settings_size») first count ≡ true → told-of ≡ in-settings → C)
+      → (told-of ≡ nowhere → C) → C
   unfolding placeOf pick
   by-answer inMain inSettings outside =
       by-test (liesWithin mainStart mainSize first count)
@@ -69,31 +82,31 @@ module _ (part : Part) (mainSize first count : ℕ) where
       (λ o. outside (rw (n, o))))
 
   -- another answer than the one told
-  other : {C : Type 0} (told : Region) (place : Place) → placeOf part mainSize first count .region ≡ told → placeOf part mainSize first count ≡ place
+  other : {C : Type 0} (told : Region) (place : Place) → told-of .region ≡ told → told-of ≡ place
       → (number (place .region) ≡ number told → ⊥) → C
   other told place r e differ = absurd (differ (ap number (sym (ap (λ (q : Place). q .region) e) ∙ r)))
 
-  pub located-in-main : placeOf part mainSize first count .region ≡ Main
-      → (first + count ≤ mainSize) × (placeOf part mainSize first count .offset ≡ first)
+  pub located-in-main : told-of .region ≡ Main
+      → (first + count ≤ mainSize) × (told-of .offset ≡ first)
   located-in-main r =
       by-answer
       (λ m e. let b = within-bounds mainStart mainSize first count m in (omega arith, ap (λ (q : Place). q .offset) e ∙ sub-zero first))
       (λ s e. other Main _ r e (λ q. omega arith))
       (λ e. other Main _ r e (λ q. omega arith))
 
-  pub located-in-settings : placeOf part mainSize first count .region ≡ Settings
-      → (first ≡ part .«settings_start» + placeOf part mainSize first count .offset)
-      × (placeOf part mainSize first count .offset + count ≤ part .«settings_size»)
+  pub located-in-settings : told-of .region ≡ Settings
+      → (first ≡ part .«settings_start» + told-of .offset)
+      × (told-of .offset + count ≤ part .«settings_size»)
   located-in-settings r =
       by-answer
       (λ m e. other Settings _ r e (λ q. omega arith))
       (λ s e.
       let b = within-bounds (part .«settings_start») (part .«settings_size») first count s in
-      let o : placeOf part mainSize first count .offset ≡ first - part .«settings_start» = ap (λ (q : Place). q .offset) e in
+      let o : told-of .offset ≡ first - part .«settings_start» = ap (λ (q : Place). q .offset) e in
       (omega arith, omega arith))
       (λ e. other Settings _ r e (λ q. omega arith))
 
-  pub located-outside : placeOf part mainSize first count .region ≡ Outside → placeOf part mainSize first count .offset ≡ 0
+  pub located-outside : told-of .region ≡ Outside → told-of .offset ≡ 0
   located-outside r =
       by-answer
       (λ m e. other Outside _ r e (λ q. omega arith))
@@ -101,36 +114,53 @@ module _ (part : Part) (mainSize first count : ℕ) where
       (λ e. ap (λ (q : Place). q .offset) e)
 
   -- and back: what lies in a region is found there, and what lies in none is outside
-  pub main-is-located : first + count ≤ mainSize → placeOf part mainSize first count ≡ placeIn Main mainStart first
+  pub main-is-located : first + count ≤ mainSize → told-of ≡ in-main
   unfolding placeOf
   main-is-located h = pick-true _ _ (range-within mainStart mainSize first count (omega arith) (omega arith))
 
   pub settings-are-located : mainSize < first + count → part .«settings_start» ≤ first → first + count ≤ part .«settings_start» + part .«settings_size»
-      → placeOf part mainSize first count ≡ placeIn Settings (part .«settings_start») first
+      → told-of ≡ in-settings
   unfolding placeOf
   settings-are-located n l u =
       pick-false _ _ (range-past mainStart mainSize first count (omega arith))
       ∙ pick-true _ _ (range-within (part .«settings_start») (part .«settings_size») first count l u)
 
   pub outside-is-told : mainSize < first + count → liesWithin (part .«settings_start») (part .«settings_size») first count ≡ false
-      → placeOf part mainSize first count ≡ nowhere
+      → told-of ≡ nowhere
   unfolding placeOf
   outside-is-told n o = pick-false _ _ (range-past mainStart mainSize first count (omega arith)) ∙ pick-false _ _ o
 
+-- protection bytes that agree on the sectors of MAIN give every range the same place
+pub places-alike : (part : Part) (mainSize : ℕ) (p q : List ℕ) (settingsBit first count : ℕ)
+    → ((sector : ℕ) → sector * part .«sector_size» < mainSize → isProtected p sector ≡ isProtected q sector)
+    → placeOf part mainSize p settingsBit first count ≡ placeOf part mainSize q settingsBit first count
+unfolding placeOf
+places-alike part mainSize p q settingsBit first count alike =
+    by-test (liesWithin mainStart mainSize first count)
+    (λ y.
+    let b = within-bounds mainStart mainSize first count y in
+    pick-true _ _ y
+    ∙ ap (placeFrom Main mainStart (first - mainStart) (first - mainStart + count))
+    (kept-alike (part .«sector_size») p q (first - mainStart) (first - mainStart + count)
+    (λ place h. alike (place / part .«sector_size») (omega (arith, div-mul-le-self place (part .«sector_size»), h, b))))
+    ∙ sym (pick-true _ _ y))
+    (λ n. pick-false _ _ n ∙ sym (pick-false _ _ n))
+
 -- a range that is larger than every region lies in none
-pub too-large-is-outside : (part : Part) (mainSize first count : ℕ) → mainSize < count → part .«settings_size» < count
-    → placeOf part mainSize first count ≡ nowhere
-too-large-is-outside part mainSize first count large larger =
-    outside-is-told part mainSize first count (omega arith)
+pub too-large-is-outside : (part : Part) (mainSize : ℕ) (protection : List ℕ) (settingsBit first count : ℕ) → mainSize < count
+    → part .«settings_size» < count → placeOf part mainSize protection settingsBit first count ≡ nowhere
+too-large-is-outside part mainSize protection settingsBit first count large larger =
+    outside-is-told part mainSize protection settingsBit first count (omega arith)
     (by-cases (decLt first (part .«settings_start»))
     (λ h. range-before (part .«settings_start») (part .«settings_size») first count h)
     (λ n. range-past (part .«settings_start») (part .«settings_size») first count (omega arith)))
 
 -- 01, Marked cases, sides of limits: "Address 0xFFFFFFF8 with 16 bytes is 05 and never wraps."
-pub last-addresses-are-outside : (part : Part) (mainSize : ℕ) → mainSize ≤ part .«most_main» → part .«most_main» ≤ 0xFFFFFFFF
-    → part .«settings_start» + part .«settings_size» ≤ 0xFFFFFFFF → placeOf part mainSize 0xFFFFFFF8 16 ≡ nowhere
-last-addresses-are-outside part mainSize h main settings =
-    outside-is-told part mainSize 0xFFFFFFF8 16 (omega arith) (range-past (part .«settings_start») (part .«settings_size») 0xFFFFFFF8 16 (omega arith))
+pub last-addresses-are-outside : (part : Part) (mainSize : ℕ) (protection : List ℕ) (settingsBit : ℕ) → mainSize ≤ part .«most_main»
+    → part .«most_main» ≤ 0xFFFFFFFF → part .«settings_start» + part .«settings_size» ≤ 0xFFFFFFFF
+    → placeOf part mainSize protection settingsBit 0xFFFFFFF8 16 ≡ nowhere
+last-addresses-are-outside part mainSize protection settingsBit h main settings =
+    outside-is-told part mainSize protection settingsBit 0xFFFFFFF8 16 (omega arith) (range-past (part .«settings_start») (part .«settings_size») 0xFFFFFFF8 16 (omega arith))
 
 -- ---- the bytes
 

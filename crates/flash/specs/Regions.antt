@@ -1,13 +1,15 @@
 -- 01, The loader and its edges: "MAIN flash starts at 0x00000000 .. Settings flash starts at 0x41C00000 and has 1,024 bytes."
 use Prim.Native.Nat.{ℕ, _+_, _-_}
 use mathlib.Core.Bool.{Bool, false}
-use lib.Dec.{leb}
+use mathlib.Core.List.{List, [], _∷_}
+use lib.Dec.{leb, ltb}
 use Rattle.octets.specs.Choice.{pick}
 use Rattle.octets.specs.Number.{isMultiple}
 use Rattle.parts.specs.declared.Part.{Part}
 use Rattle.flash.specs.declared.Place.{Place}
 use Rattle.flash.specs.declared.Region.{Region}
 use Rattle.flash.specs.declared.Region.the-variants.{Main, Settings, Outside}
+use Rattle.flash.specs.Protection.{firstKept}
 
 -- "MAIN flash starts at 0x00000000"
 abbrev pub mainStart : ℕ
@@ -23,17 +25,26 @@ isMainSize part size =
 unfoldable pub liesWithin : ℕ → ℕ → ℕ → ℕ → Bool
 liesWithin start size first count = pick (leb start first) (leb (first + count) (start + size)) false
 
--- a place in a region is told from the region's start on
-abbrev pub placeIn : Region → ℕ → ℕ → Place
-placeIn region start first = record { region = region; offset = first - start }
+-- T-04: "the range check now also tells whether the range has a protected place and the first such address". A place in a region is counted
+-- from the region's start on, and its address is that start and it; 0 where no place is protected.
+abbrev pub placeFrom : Region → ℕ → ℕ → ℕ → ℕ → Place
+placeFrom region start offset end kept =
+    record { region = region; offset = offset; «is_protected» = ltb kept end; «first_protected» = pick (ltb kept end) (start + kept) 0 }
 
--- outside of every region the offset is 0; 01: "SRAM addresses are not in any region in the base."
+-- the place of so many bytes from the first address on, in a region with these sectors and protection bits
+abbrev pub placeIn : Region → ℕ → List ℕ → ℕ → ℕ → ℕ → Place
+placeIn region sectorSize protection start first count =
+    placeFrom region start (first - start) (first - start + count) (firstKept sectorSize protection (first - start) (first - start + count))
+
+-- outside of every region the offset is 0, and nothing is protected; 01: "SRAM addresses are not in any region in the base."
 abbrev pub nowhere : Place
-nowhere = record { region = Outside; offset = 0 }
+nowhere = record { region = Outside; offset = 0; «is_protected» = false; «first_protected» = 0 }
 
--- the region that holds so many bytes from the first address on
-unfoldable pub placeOf : Part → ℕ → ℕ → ℕ → Place
-placeOf part mainSize first count =
-    pick (liesWithin mainStart mainSize first count) (placeIn Main mainStart first)
-    (pick (liesWithin (part .«settings_start») (part .«settings_size») first count) (placeIn Settings (part .«settings_start») first)
+-- the region that holds so many bytes from the first address on, under the protection bits of MAIN's sectors and that of the settings,
+-- "settings protected (0 or 1)", which are one sector
+unfoldable pub placeOf : Part → ℕ → List ℕ → ℕ → ℕ → ℕ → Place
+placeOf part mainSize protection settingsBit first count =
+    pick (liesWithin mainStart mainSize first count) (placeIn Main (part .«sector_size») protection mainStart first count)
+    (pick (liesWithin (part .«settings_start») (part .«settings_size») first count)
+    (placeIn Settings (part .«sector_size») (settingsBit ∷ []) (part .«settings_start») first count)
     nowhere)

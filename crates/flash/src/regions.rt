@@ -1,9 +1,11 @@
 // The regions of memory: which sizes MAIN may have, which region holds a range of addresses, and the bytes there.
 ghost use mathlib.Core.Path.{_≡_};
-ghost use Rattle.flash.specs.Regions.{isMainSize, liesWithin, placeOf};
+ghost use Prim.Native.Nat.{_+_, _≤_};
+ghost use Rattle.flash.specs.Regions.{isMainSize, liesWithin, placeIn, placeOf};
 ghost use Rattle.flash.specs.Memory.{memory, bytesIn};
 use crate::Place;
 use crate::Region;
+use crate::protection;
 use parts::Part;
 
 const MAIN_START: u32 = 0;
@@ -38,27 +40,76 @@ fn lies_within(start: u32, size: u32, first: u32, count: u64) -> bool
     first as u64 + count <= start as u64 + room
 }
 
-// The region that holds the range wholly, for every count.
-pub fn locate(part: Part, main_size: u32, first: u32, count: u64) -> Place
-    ensures { λ r. ⌜ r ≡ placeOf part «main_size» first count ⌝ }
+// The place of a range that a region holds wholly.
+fn place_in(
+    region: Region,
+    sector_size: u32,
+    protection: &[u8],
+    start: u32,
+    first: u32,
+    count: u64,
+) -> Place
+    requires { ⌜ (start ≤ first) × (first + count ≤ start + 0xFFFFFFFF) ⌝ }
+    ensures { λ r. ⌜ r ≡ placeIn region «sector_size» (now (protection .entry)) start first count ⌝ }
 {
-    if lies_within(MAIN_START, main_size, first, count) {
+    let offset = (first - start) as usize;
+    let end = offset + count as usize;
+    let kept = protection::first_kept(sector_size as usize, protection, offset, end);
+    if kept < end {
         return Place {
-            region: Region::Main,
-            offset: (first - MAIN_START) as usize,
+            region,
+            offset,
+            is_protected: true,
+            first_protected: start as u64 + kept as u64,
         };
+    }
+    Place {
+        region,
+        offset,
+        is_protected: false,
+        first_protected: 0,
+    }
+}
+
+// The region that holds the range wholly, for every count. The settings flash is one sector, and the number is its bit.
+pub fn locate(
+    part: Part,
+    main_size: u32,
+    protection: &[u8],
+    settings_protected: u8,
+    first: u32,
+    count: u64,
+) -> Place
+    ensures { λ r. ⌜ r ≡ placeOf part «main_size» (now (protection .entry)) «settings_protected» first count ⌝ }
+{
+    let sector_size = part.sector_size;
+    if lies_within(MAIN_START, main_size, first, count) {
+        return place_in(
+            Region::Main,
+            sector_size,
+            protection,
+            MAIN_START,
+            first,
+            count,
+        );
     }
     let start = part.settings_start;
     let size = part.settings_size;
     if lies_within(start, size, first, count) {
-        return Place {
-            region: Region::Settings,
-            offset: (first - start) as usize,
-        };
+        return place_in(
+            Region::Settings,
+            sector_size,
+            &[settings_protected],
+            start,
+            first,
+            count,
+        );
     }
     Place {
         region: Region::Outside,
         offset: 0,
+        is_protected: false,
+        first_protected: 0,
     }
 }
 

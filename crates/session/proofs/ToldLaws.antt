@@ -18,16 +18,16 @@ use Rattle.session_act.proofs.PlanLaws.{every-plan, bytesBeside}
 use Rattle.session_send.specs.Answering.{answerOf}
 use Rattle.session_send.proofs.AnsweringLaws.{whole, answerBytes, answer-is-whole}
 
-module _ (part : Part) (mainSize : ℕ) (shown : Shown) (right : Bool) (before after : Memory) (effect : Effect) where
+module _ (part : Part) (mainSize : ℕ) (shown : Shown) (protection : List ℕ) (right : Bool) (before after : Memory) (effect : Effect) where
   abbrev plans : Planned
-  plans = planOf part mainSize shown right before effect
+  plans = planOf part mainSize shown protection right before effect
 
   -- no more bytes go with an answer than Read back may ask for
   few-beside : length (bytesBeside after plans) ≤ readBackMost
   few-beside =
       every-plan (λ planned. length (bytesBeside after planned) ≤ readBackMost) (λ reply order. omega arith)
       (λ place size few. omega (arith, few, most-asked (place .offset) size after (place .region)))
-      part mainSize shown right before effect
+      part mainSize shown protection right before effect
 
   -- Whatever was decided of a packet: the reply of its plan is sent whole in an area of 1,729 bytes. No call answers with size 0 for want of room.
   pub plan-is-told-whole : (packet area : List ℕ) → replyLimit ≤ length area

@@ -46,6 +46,8 @@ fn says(reply: Reply) -> Planned
         place: Place {
             region: Region::Outside,
             offset: 0,
+            is_protected: false,
+            first_protected: 0,
         },
         count: 0,
     }
@@ -72,6 +74,7 @@ fn act_on(
         effect,
         settings.shown,
         session.main_size,
+        &settings.protection,
         right,
         main,
         image,

@@ -3,6 +3,7 @@
 // No proof says how long that takes, or what a compiler makes of it (`docs/BENCH.md` has what was counted). Other packets are not compared.
 ghost use mathlib.Core.Path.{_≡_};
 ghost use Prim.Native.Nat.{ℕ};
+ghost use mathlib.Core.List.{List};
 ghost use Rattle.octets.specs.Alike.{areSame};
 ghost use Rattle.line.specs.Packet.{passwordIn, resetPasswordIn};
 ghost use Rattle.session_state.specs.declared.Standing.{Standing};
@@ -37,7 +38,7 @@ pub(crate) fn unlocks(password: &[u8], packet: &[u8]) -> bool
 
 // The bit of which the plan hears: whether a Factory reset carries the reset password. Any other effect is planned alike.
 pub(crate) fn resets(effect: Effect, password: &[u8], packet: &[u8]) -> bool
-    ensures { λ r. ⌜ ((part : Part) (mainSize : ℕ) (shown : Shown) (before : Memory) → planOf part mainSize shown r before effect ≡ planOf part mainSize shown (areSame (now (password .entry)) (resetPasswordIn (now (packet .entry)))) before effect) ⌝ }
+    ensures { λ r. ⌜ ((part : Part) (mainSize : ℕ) (shown : Shown) (protection : List ℕ) (before : Memory) → planOf part mainSize shown protection r before effect ≡ planOf part mainSize shown protection (areSame (now (password .entry)) (resetPasswordIn (now (packet .entry)))) before effect) ⌝ }
 {
     let Effect::Perform(task) = effect else {
         return false;

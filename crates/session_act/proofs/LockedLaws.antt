@@ -36,10 +36,10 @@ isStrike TellInfo = false
 isStrike Strike = true
 isStrike (Perform task) = false
 
-module _ (part : Part) (mainSize : ℕ) (shown : Shown) (right : Bool) (before : Memory) where
+module _ (part : Part) (mainSize : ℕ) (shown : Shown) (protection : List ℕ) (right : Bool) (before : Memory) where
   -- all that a locked board can be told to do to memory: nothing, or the strike's erase of both regions
   pub locked-orders : (effect : Effect) → isPerformed effect ≡ false
-      → planOf part mainSize shown right before effect .order ≡ pick (isStrike effect) EraseBoth Keep
+      → planOf part mainSize shown protection right before effect .order ≡ pick (isStrike effect) EraseBoth Keep
   unfolding pick
   locked-orders (Say reply) h = refl
   locked-orders TellInfo h = refl
@@ -48,7 +48,7 @@ module _ (part : Part) (mainSize : ℕ) (shown : Shown) (right : Bool) (before :
 
   -- and no byte of memory goes with the answer, whatever memory then is
   pub locked-shows-nothing : (after : Memory) (effect : Effect) → isPerformed effect ≡ false
-      → bytesBeside after (planOf part mainSize shown right before effect) ≡ []
+      → bytesBeside after (planOf part mainSize shown protection right before effect) ≡ []
   locked-shows-nothing after (Say reply) h = refl
   locked-shows-nothing after TellInfo h = refl
   locked-shows-nothing after Strike h = refl

@@ -34,21 +34,24 @@ use Rattle.session_act.specs.Acting.{taskPlanned, planOf}
 
 module _ (P : Planned → Type 0) (shows-none : (reply : Reply) (order : Order) → P (planned reply order nowhere 0))
     (keeps : (place : Place) (size : ℕ) → size ≤ readBackMost → P (planned Bytes Keep place size)) where
-  erase-in : (start end : ℕ) (region : Region) → P (rangeEraseIn start end region)
-  erase-in start end Main = shows-none _ _
-  erase-in start end Settings = shows-none _ _
-  erase-in start end Outside = shows-none _ _
+  erase-in : (start end : ℕ) (protected : Bool) (region : Region) → P (rangeEraseIn start end protected region)
+  erase-in start end protected Main = by-pick P protected _ _ (λ y. shows-none _ _) (λ n. shows-none _ _)
+  erase-in start end protected Settings = shows-none _ _
+  erase-in start end protected Outside = shows-none _ _
 
-  range-erase : (part : Part) (mainSize start end : ℕ) → P (rangeErase part mainSize start end)
+  range-erase : (part : Part) (mainSize : ℕ) (protection : List ℕ) (settingsBit start end : ℕ) → P (rangeErase part mainSize protection settingsBit start end)
   unfolding rangeErase
-  range-erase part mainSize start end =
-      by-pick P (ltb end start) _ _ (λ y. shows-none _ _) (λ n. erase-in start end (placeOf part mainSize start (end - start + 1) .region))
+  range-erase part mainSize protection settingsBit start end =
+      let place = placeOf part mainSize protection settingsBit start (end - start + 1) in
+      by-pick P (ltb end start) _ _ (λ y. shows-none _ _) (λ n. erase-in start end (place .«is_protected») (place .region))
 
   program : (word address size : ℕ) (place : Place) → P (programAt word address size place)
   unfolding programAt
   program word address size place =
       by-pick P (isOutside (place .region)) _ _ (λ y. shows-none _ _)
-      (λ n. by-pick P (isAligned word address size) _ _ (λ y. shows-none _ _) (λ n. shows-none _ _))
+      (λ n. by-pick P (isAligned word address size) _ _
+      (λ y. by-pick P (place .«is_protected») _ _ (λ k. shows-none _ _) (λ o. shows-none _ _))
+      (λ n. shows-none _ _))
 
   read-back : (readout size : ℕ) (place : Place) → P (readBackAt readout size place)
   unfolding readBackAt
@@ -67,18 +70,21 @@ module _ (P : Planned → Type 0) (shows-none : (reply : Reply) (order : Order) 
       (λ y. by-pick P (lacksResetPassword with right) _ _ (λ l. shows-none _ _) (λ h. shows-none _ _))
       (λ n. shows-none _ _))
 
-  module _ (part : Part) (mainSize : ℕ) (shown : Shown) (right : Bool) (memory : Memory) where
-    every-task : (task : Guarded) → P (taskPlanned part mainSize shown right memory task)
-    every-task (guarded.RangeErase start end) = range-erase part mainSize start end
+  module _ (part : Part) (mainSize : ℕ) (shown : Shown) (protection : List ℕ) (right : Bool) (memory : Memory) where
+    abbrev place : ℕ → ℕ → Place
+    place first count = placeOf part mainSize protection (shown .«settings_protected») first count
+
+    every-task : (task : Guarded) → P (taskPlanned part mainSize shown protection right memory task)
+    every-task (guarded.RangeErase start end) = range-erase part mainSize protection (shown .«settings_protected») start end
     every-task guarded.MassErase = shows-none _ _
-    every-task (guarded.Program address size silent) = program (part .«word_size») address size (placeOf part mainSize address size)
-    every-task (guarded.ReadBack address size) = read-back (shown .readout) size (placeOf part mainSize address size)
+    every-task (guarded.Program address size silent) = program (part .«word_size») address size (place address size)
+    every-task (guarded.ReadBack address size) = read-back (shown .readout) size (place address size)
     every-task (guarded.Verify address size) = shows-none _ _
     every-task (guarded.FactoryReset with) = reset (shown .«reset_mode») with right
     every-task guarded.WrongLength = shows-none _ _
 
     -- what holds of an answer without bytes, whatever is ordered, and of so many bytes beside no order holds of every plan
-    pub every-plan : (effect : Effect) → P (planOf part mainSize shown right memory effect)
+    pub every-plan : (effect : Effect) → P (planOf part mainSize shown protection right memory effect)
     every-plan (Say reply) = shows-none _ _
     every-plan TellInfo = shows-none _ _
     every-plan Strike = shows-none _ _
@@ -96,7 +102,7 @@ repliedBy memory planned = replyBytes (planned .reply) (bytesBeside memory plann
 
 module _ (part : Part) (shown : Shown) (protection packet : List ℕ) (before : Memory) (mainSize : ℕ) (right : Bool) (effect : Effect) where
   abbrev plans : Planned
-  plans = planOf part mainSize shown right before effect
+  plans = planOf part mainSize shown protection right before effect
 
   abbrev after : Memory
   after = carriedOut part shown protection packet before (plans .order)
@@ -105,7 +111,7 @@ module _ (part : Part) (shown : Shown) (protection packet : List ℕ) (before : 
   pub bytes-need-no-order : bytesBeside after plans ≡ bytesBeside before plans
   bytes-need-no-order =
       every-plan (λ planned. bytesBeside (carriedOut part shown protection packet before (planned .order)) planned ≡ bytesBeside before planned)
-      (λ reply order. refl) (λ place size few. refl) part mainSize shown right before effect
+      (λ reply order. refl) (λ place size few. refl) part mainSize shown protection right before effect
 
   -- so a reply can be written before its order is carried out, as a device does that hands the order to a driver
   pub replies-need-no-order : repliedBy after plans ≡ repliedBy before plans

@@ -1,6 +1,6 @@
 -- What a test of a region leaves where it fails. Keys are the places of the cases: Main 0, Settings 1, Outside 2.
 use mathlib.Core.Path.{_≡_, refl}
-use mathlib.Core.Bool.{false}
+use mathlib.Core.Bool.{Bool, false}
 use mathlib.Core.List.{[], _∷_}
 use Prim.Native.Nat.{ℕ}
 use denote.Enum.Declared.{tagOf}
@@ -18,8 +18,8 @@ not-outside Main h = refl
 not-outside Settings h = refl
 not-outside Outside h = absurd (miss (0 ∷ 1 ∷ []) 2 tt h)
 
-pub not-main : (start end : ℕ) (region : Region) → OneOf (1 ∷ 2 ∷ []) (tagOf the-type region)
-    → rangeEraseIn start end region ≡ tells codes.invalidRange
-not-main start end Main h = absurd (miss (1 ∷ 2 ∷ []) 0 tt h)
-not-main start end Settings h = refl
-not-main start end Outside h = refl
+pub not-main : (start end : ℕ) (protected : Bool) (region : Region) → OneOf (1 ∷ 2 ∷ []) (tagOf the-type region)
+    → rangeEraseIn start end protected region ≡ tells codes.invalidRange
+not-main start end protected Main h = absurd (miss (1 ∷ 2 ∷ []) 0 tt h)
+not-main start end protected Settings h = refl
+not-main start end protected Outside h = refl

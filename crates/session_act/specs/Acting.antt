@@ -20,25 +20,29 @@ use Rattle.session_act.specs.Programming.{program}
 use Rattle.session_act.specs.Showing.{readBack, verify}
 
 -- a protected command of an unlocked session; "wrong L 06; then each one's own checks"
-abbrev pub taskPlanned : Part → ℕ → Shown → Bool → Memory → Guarded → Planned
-taskPlanned part mainSize shown right memory (guarded.RangeErase start end) = rangeErase part mainSize start end
-taskPlanned part mainSize shown right memory guarded.MassErase = massErase
-taskPlanned part mainSize shown right memory (guarded.Program address size silent) = program part mainSize address size
-taskPlanned part mainSize shown right memory (guarded.ReadBack address size) = readBack part (shown .readout) mainSize address size
-taskPlanned part mainSize shown right memory (guarded.Verify address size) = verify part mainSize address size memory
-taskPlanned part mainSize shown right memory (guarded.FactoryReset with) = factoryReset (shown .«reset_mode») with right
-taskPlanned part mainSize shown right memory guarded.WrongLength = tells codes.wrongLength
+abbrev pub taskPlanned : Part → ℕ → Shown → List ℕ → Bool → Memory → Guarded → Planned
+taskPlanned part mainSize shown protection right memory (guarded.RangeErase start end) =
+    rangeErase part mainSize protection (shown .«settings_protected») start end
+taskPlanned part mainSize shown protection right memory guarded.MassErase = massErase
+taskPlanned part mainSize shown protection right memory (guarded.Program address size silent) =
+    program part mainSize protection (shown .«settings_protected») address size
+taskPlanned part mainSize shown protection right memory (guarded.ReadBack address size) =
+    readBack part (shown .readout) mainSize protection (shown .«settings_protected») address size
+taskPlanned part mainSize shown protection right memory (guarded.Verify address size) =
+    verify part mainSize protection (shown .«settings_protected») address size memory
+taskPlanned part mainSize shown protection right memory (guarded.FactoryReset with) = factoryReset (shown .«reset_mode») with right
+taskPlanned part mainSize shown protection right memory guarded.WrongLength = tells codes.wrongLength
 
 -- what was decided is planned; the bit is whether the packet carries the reset password
-abbrev pub planOf : Part → ℕ → Shown → Bool → Memory → Effect → Planned
-planOf part mainSize shown right memory (Say reply) = says reply
-planOf part mainSize shown right memory TellInfo = says (infoTold shown (memory .main))
-planOf part mainSize shown right memory Strike = struck
-planOf part mainSize shown right memory (Perform task) = taskPlanned part mainSize shown right memory task
+abbrev pub planOf : Part → ℕ → Shown → List ℕ → Bool → Memory → Effect → Planned
+planOf part mainSize shown protection right memory (Say reply) = says reply
+planOf part mainSize shown protection right memory TellInfo = says (infoTold shown (memory .main))
+planOf part mainSize shown protection right memory Strike = struck
+planOf part mainSize shown protection right memory (Perform task) = taskPlanned part mainSize shown protection right memory task
 
 -- the plan of a board, and what its order leaves there
 abbrev pub planOn : Board → Bool → Memory → Effect → Planned
-planOn board right memory effect = planOf (board .part) (board .mainSize) (board .shown) right memory effect
+planOn board right memory effect = planOf (board .part) (board .mainSize) (board .shown) (board .protection) right memory effect
 
 abbrev pub carriedOn : Board → List ℕ → Memory → Planned → Memory
 carriedOn board packet before planned = carriedOut (board .part) (board .shown) (board .protection) packet before (planned .order)

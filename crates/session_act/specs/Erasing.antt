@@ -1,27 +1,34 @@
 -- 01, Commands: 0x23 Range erase, 0x15 Mass erase, 0x30 Factory reset, and the reset of an alert.
 use Prim.Native.Nat.{ℕ, _+_, _-_}
 use mathlib.Core.Bool.{Bool, true, not}
+use mathlib.Core.List.{List}
 use lib.Dec.{ltb, eqb}
 use Rattle.octets.specs.Choice.{pick}
 use Rattle.parts.specs.declared.Part.{Part}
 use Rattle.line.specs.Codes as codes
 use Rattle.flash.specs.declared.Region.{Region}
 use Rattle.flash.specs.declared.Region.the-variants.{Main, Settings, Outside}
+use Rattle.flash.specs.declared.Place.{Place}
 use Rattle.flash.specs.Regions.{placeOf}
 use Rattle.session_act.specs.declared.Order.the-variants.{EraseBetween, EraseMain, EraseBoth}
 use Rattle.session_act.specs.declared.Planned.{Planned}
 use Rattle.session_act.specs.Plans.{tells, orders}
 
--- "either outside MAIN: 05. Every sector from start's to end's becomes 0xFF; 00."
-abbrev pub rangeEraseIn : ℕ → ℕ → Region → Planned
-rangeEraseIn start end Main = orders codes.success (EraseBetween start end)
-rangeEraseIn start end Settings = tells codes.invalidRange
-rangeEraseIn start end Outside = tells codes.invalidRange
+-- "either outside MAIN: 05. Every sector from start's to end's becomes 0xFF; 00."; T-04: "must refuse when any place they would touch is
+-- protected", "for Range erase after its other 05"
+abbrev pub rangeEraseIn : ℕ → ℕ → Bool → Region → Planned
+rangeEraseIn start end protected Main = pick protected (tells codes.invalidRange) (orders codes.success (EraseBetween start end))
+rangeEraseIn start end protected Settings = tells codes.invalidRange
+rangeEraseIn start end protected Outside = tells codes.invalidRange
+
+abbrev pub rangeEraseAt : ℕ → ℕ → Place → Planned
+rangeEraseAt start end place = rangeEraseIn start end (place .«is_protected») (place .region)
 
 -- "0x23 Range erase, protected, L 9: start above end or either outside MAIN: 05." The range has end - start + 1 bytes.
-unfoldable pub rangeErase : Part → ℕ → ℕ → ℕ → Planned
-rangeErase part mainSize start end =
-    pick (ltb end start) (tells codes.invalidRange) (rangeEraseIn start end (placeOf part mainSize start (end - start + 1) .region))
+unfoldable pub rangeErase : Part → ℕ → List ℕ → ℕ → ℕ → ℕ → Planned
+rangeErase part mainSize protection settingsBit start end =
+    pick (ltb end start) (tells codes.invalidRange)
+    (rangeEraseAt start end (placeOf part mainSize protection settingsBit start (end - start + 1)))
 
 -- "0x15 Mass erase, protected, L 1: all MAIN; 00."
 abbrev pub massErase : Planned

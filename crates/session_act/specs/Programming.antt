@@ -1,6 +1,7 @@
 -- 01, Commands: 0x20 Program, and 0x24 likewise.
 use Prim.Native.Nat.{ℕ}
 use mathlib.Core.Bool.{Bool, true, false}
+use mathlib.Core.List.{List}
 use Rattle.octets.specs.Choice.{pick}
 use Rattle.octets.specs.Number.{isMultiple}
 use Rattle.parts.specs.declared.Part.{Part}
@@ -31,12 +32,15 @@ programIn offset size Settings = ProgramSettings offset size
 programIn offset size Outside = Keep
 
 -- "0x20 Program, protected, L from 6: not wholly in one region: 05. Address or data size not a multiple of 8: 0A. Each byte becomes
--- old AND new; 00."
+-- old AND new; 00."; T-04: "message 05 after 0A", where a place of the range is protected. This is the order of Program's refusals.
 unfoldable pub programAt : ℕ → ℕ → ℕ → Place → Planned
 programAt word address size place =
     pick (isOutside (place .region)) (tells codes.invalidRange)
-    (pick (isAligned word address size) (orders codes.success (programIn (place .offset) size (place .region))) (tells codes.notAligned))
+    (pick (isAligned word address size)
+    (pick (place .«is_protected») (tells codes.invalidRange) (orders codes.success (programIn (place .offset) size (place .region))))
+    (tells codes.notAligned))
 
 -- the place is that of so many bytes from the address on
-abbrev pub program : Part → ℕ → ℕ → ℕ → Planned
-program part mainSize address size = programAt (part .«word_size») address size (placeOf part mainSize address size)
+abbrev pub program : Part → ℕ → List ℕ → ℕ → ℕ → ℕ → Planned
+program part mainSize protection settingsBit address size =
+    programAt (part .«word_size») address size (placeOf part mainSize protection settingsBit address size)

@@ -1,5 +1,6 @@
 -- 01, Commands: 0x29 Read back, 0x26 Verify. Neither changes memory.
 use Prim.Native.Nat.{ℕ}
+use mathlib.Core.List.{List}
 use lib.Dec.{ltb, eqb}
 use Rattle.octets.specs.Choice.{pick}
 use Rattle.checksum.specs.Checksum.{checksumOf}
@@ -30,8 +31,8 @@ readBackAt readout size place =
     (tells codes.readoutOff)
 
 -- the place is that of so many bytes from the address on
-abbrev pub readBack : Part → ℕ → ℕ → ℕ → ℕ → Planned
-readBack part readout mainSize address size = readBackAt readout size (placeOf part mainSize address size)
+abbrev pub readBack : Part → ℕ → ℕ → List ℕ → ℕ → ℕ → ℕ → Planned
+readBack part readout mainSize protection settingsBit address size = readBackAt readout size (placeOf part mainSize protection settingsBit address size)
 
 -- "0x26 Verify, protected, L 9: size under 1,024: 0B; .. not in one region 05; else 32 and the checksum."; T-07: "01's list loses the line"
 -- that stood between.
@@ -41,5 +42,6 @@ verifyAt part size memory place =
     (pick (isOutside (place .region)) (Message codes.invalidRange) (Sum (checksumOf (bytesAt place size memory))))
 
 -- the place is that of so many bytes from the address on
-abbrev pub verify : Part → ℕ → ℕ → ℕ → Memory → Planned
-verify part mainSize address size memory = says (verifyAt part size memory (placeOf part mainSize address size))
+abbrev pub verify : Part → ℕ → List ℕ → ℕ → ℕ → ℕ → Memory → Planned
+verify part mainSize protection settingsBit address size memory =
+    says (verifyAt part size memory (placeOf part mainSize protection settingsBit address size))

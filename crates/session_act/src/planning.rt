@@ -21,26 +21,54 @@ fn plan_task<'a>(
     task: Guarded,
     shown: Shown,
     main_size: u32,
+    protection: &[u8],
     right: bool,
     main: &'a [u8],
     image: &'a [u8],
 ) -> Planned
-    ensures { λ r. ⌜ r ≡ taskPlanned part «main_size» shown right (memory (now (main .entry)) (now (image .entry))) task ⌝ }
+    ensures { λ r. ⌜ r ≡ taskPlanned part «main_size» shown (now (protection .entry)) right (memory (now (main .entry)) (now (image .entry))) task ⌝ }
 {
     match task {
-        Guarded::RangeErase { start, end } => erasing::range_erase(part, main_size, start, end),
+        Guarded::RangeErase { start, end } => erasing::range_erase(
+            part,
+            main_size,
+            protection,
+            shown.settings_protected,
+            start,
+            end,
+        ),
         Guarded::MassErase => plans::orders(codes::SUCCESS, Order::EraseMain),
         Guarded::Program {
             address,
             size,
             silent: _,
-        } => programming::program(part, main_size, address, size),
-        Guarded::ReadBack { address, size } => {
-            showing::read_back(part, shown.readout, main_size, address, size)
-        }
-        Guarded::Verify { address, size } => {
-            plans::says(showing::verify(part, main_size, address, size, main, image))
-        }
+        } => programming::program(
+            part,
+            main_size,
+            protection,
+            shown.settings_protected,
+            address,
+            size,
+        ),
+        Guarded::ReadBack { address, size } => showing::read_back(
+            part,
+            shown.readout,
+            main_size,
+            protection,
+            shown.settings_protected,
+            address,
+            size,
+        ),
+        Guarded::Verify { address, size } => plans::says(showing::verify(
+            part,
+            main_size,
+            protection,
+            shown.settings_protected,
+            address,
+            size,
+            main,
+            image,
+        )),
         Guarded::FactoryReset { with_password } => {
             erasing::factory_reset(shown.reset_mode, with_password, right)
         }
@@ -54,16 +82,26 @@ pub fn plan<'a>(
     effect: Effect,
     shown: Shown,
     main_size: u32,
+    protection: &[u8],
     right: bool,
     main: &'a [u8],
     image: &'a [u8],
 ) -> Planned
-    ensures { λ r. ⌜ r ≡ planOf part «main_size» shown right (memory (now (main .entry)) (now (image .entry))) effect ⌝ }
+    ensures { λ r. ⌜ r ≡ planOf part «main_size» shown (now (protection .entry)) right (memory (now (main .entry)) (now (image .entry))) effect ⌝ }
 {
     match effect {
         Effect::Say(reply) => plans::says(reply),
         Effect::TellInfo => plans::says(telling::info(shown, main)),
         Effect::Strike => plans::orders(codes::ALERT_TAKEN, Order::EraseBoth),
-        Effect::Perform(task) => plan_task(part, task, shown, main_size, right, main, image),
+        Effect::Perform(task) => plan_task(
+            part,
+            task,
+            shown,
+            main_size,
+            protection,
+            right,
+            main,
+            image,
+        ),
     }
 }

@@ -18,6 +18,8 @@ fn planned(reply: Reply, order: Order) -> Planned
         place: Place {
             region: Region::Outside,
             offset: 0,
+            is_protected: false,
+            first_protected: 0,
         },
         count: 0,
     }

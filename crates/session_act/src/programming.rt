@@ -28,11 +28,25 @@ fn program_in(region: Region, offset: usize, size: u32) -> Order
     }
 }
 
-// Programs the region that holds the range wholly.
-pub(crate) fn program(part: Part, main_size: u32, address: u32, size: u32) -> Planned
-    ensures { λ r. ⌜ r ≡ program part «main_size» address size ⌝ }
+// Programs the region that holds the range wholly, where no place of it is protected.
+pub(crate) fn program(
+    part: Part,
+    main_size: u32,
+    protection: &[u8],
+    settings_protected: u8,
+    address: u32,
+    size: u32,
+) -> Planned
+    ensures { λ r. ⌜ r ≡ program part «main_size» (now (protection .entry)) «settings_protected» address size ⌝ }
 {
-    let place = flash::locate(part, main_size, address, size as u64);
+    let place = flash::locate(
+        part,
+        main_size,
+        protection,
+        settings_protected,
+        address,
+        size as u64,
+    );
     let region = place.region;
     let offset = place.offset;
     if let Region::Outside = region {
@@ -40,6 +54,9 @@ pub(crate) fn program(part: Part, main_size: u32, address: u32, size: u32) -> Pl
     }
     if !is_aligned(part.word_size, address, size) {
         return plans::tells(codes::NOT_ALIGNED);
+    }
+    if place.is_protected {
+        return plans::tells(codes::INVALID_RANGE);
     }
     plans::orders(codes::SUCCESS, program_in(region, offset, size))
 }

@@ -20,10 +20,12 @@ pub(crate) fn read_back(
     part: Part,
     readout: u16,
     main_size: u32,
+    protection: &[u8],
+    settings_protected: u8,
     address: u32,
     size: u32,
 ) -> Planned
-    ensures { λ r. ⌜ r ≡ readBackAt readout size (placeOf part «main_size» address size) ⌝ }
+    ensures { λ r. ⌜ r ≡ readBackAt readout size (placeOf part «main_size» (now (protection .entry)) «settings_protected» address size) ⌝ }
 {
     if readout != READOUT_ON {
         return plans::tells(codes::READOUT_OFF);
@@ -34,7 +36,14 @@ pub(crate) fn read_back(
     if READ_BACK_MOST < size {
         return plans::tells(codes::INVALID_RANGE);
     }
-    let place = flash::locate(part, main_size, address, size as u64);
+    let place = flash::locate(
+        part,
+        main_size,
+        protection,
+        settings_protected,
+        address,
+        size as u64,
+    );
     let region = place.region;
     if let Region::Outside = region {
         return plans::tells(codes::INVALID_RANGE);
@@ -51,18 +60,27 @@ pub(crate) fn read_back(
 pub(crate) fn verify<'a>(
     part: Part,
     main_size: u32,
+    protection: &[u8],
+    settings_protected: u8,
     address: u32,
     size: u32,
     main: &'a [u8],
     image: &'a [u8],
 ) -> Reply
-    ensures { λ r. ⌜ r ≡ verifyAt part size (memory (now (main .entry)) (now (image .entry))) (placeOf part «main_size» address size) ⌝ }
+    ensures { λ r. ⌜ r ≡ verifyAt part size (memory (now (main .entry)) (now (image .entry))) (placeOf part «main_size» (now (protection .entry)) «settings_protected» address size) ⌝ }
 {
     let least = part.least_verify;
     if size < least {
         return Reply::Message(codes::TOO_SMALL);
     }
-    let place = flash::locate(part, main_size, address, size as u64);
+    let place = flash::locate(
+        part,
+        main_size,
+        protection,
+        settings_protected,
+        address,
+        size as u64,
+    );
     let region = place.region;
     if let Region::Outside = region {
         return Reply::Message(codes::INVALID_RANGE);

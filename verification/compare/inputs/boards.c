@@ -63,8 +63,8 @@ static void choose_protection(struct dice *dice, uint32_t main_size, uint8_t *bi
         if (last < 63)
             bits[(last + 1) / 8] = (uint8_t)(1u << (last + 1) % 8);
         break;
-    case 5:
-        memset(bits, 0x55, 8);
+    case 5: /* every second one */
+        memset(bits, chance(dice, 50) ? 0x55 : 0xAA, 8);
         break;
     default:
         break;

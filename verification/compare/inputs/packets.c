@@ -92,7 +92,7 @@ static size_t range_erase_core(struct dice *dice, const struct standing *standin
     uint32_t end = choose_address(dice, standing);
     if (chance(dice, 40))
         start = below(dice, standing->main_size);
-    switch (below(dice, 9)) {
+    switch (below(dice, 10)) {
     case 0:
         end = start;
         break;
@@ -116,6 +116,10 @@ static size_t range_erase_core(struct dice *dice, const struct standing *standin
         start |= SECTOR - 1;
         end = start + 1 + SECTOR * below(dice, 3);
         break;
+    case 7: /* whole sectors */
+        start -= start % SECTOR;
+        end = start + SECTOR * (1 + below(dice, 3)) - 1;
+        break;
     default:
         break;
     }
@@ -124,11 +128,22 @@ static size_t range_erase_core(struct dice *dice, const struct standing *standin
     return 9;
 }
 
+/* Whole words that go up to a sector's edge, on from it or over it; also the edge where MAIN ends. */
+static void choose_words_at_edge(struct dice *dice, const struct standing *standing, uint32_t *address, uint32_t *count)
+{
+    uint32_t edge = SECTOR * (1 + below(dice, standing->main_size / SECTOR));
+    uint32_t before = 8 * below(dice, 4), after = 8 * below(dice, chance(dice, 80) ? 4 : 200);
+    *address = edge - before;
+    *count = before + after;
+}
+
 static size_t program_core(struct dice *dice, const struct standing *standing, uint8_t *core)
 {
     uint32_t address = choose_address(dice, standing);
     uint32_t most = CORE_LARGEST - 5;
     uint32_t count = choose_count(dice, standing, address, 8 * (1 + below(dice, chance(dice, 80) ? 8 : 214)));
+    if (chance(dice, 20))
+        choose_words_at_edge(dice, standing, &address, &count);
     if (chance(dice, 8))
         count = 1 + below(dice, most);
     if (chance(dice, 3))

@@ -63,16 +63,28 @@
     P(ALERT_RESET_MODE_0, "alert reset in reset mode", "0") P(ALERT_RESET_MODE_1, "", "1") \
     P(ALERT_RESET_MODE_2, "", "2") \
     P(BURN, "alert", "burn the fuse") P(PASSWORD_KEPT, "", "unlocked by the session's password over blank settings") \
-    P(SECTOR_RANGE, "protected sector met by", "Range erase") P(SECTOR_MASS, "", "Mass erase") \
-    P(SECTOR_PROGRAM, "", "Program") P(SECTOR_FAST, "", "Program fast") P(SECTOR_FACTORY, "", "Factory reset") \
-    P(SECTOR_ALERT, "", "alert reset") P(SECTOR_PARTLY, "", "Program over the edge") \
-    P(SECTOR_RANGE_PARTLY, "", "Range erase over the edge") \
-    P(SETTINGS_PROGRAM, "protected settings met by", "Program") P(SETTINGS_FAST, "", "Program fast") \
-    P(SETTINGS_FACTORY, "", "Factory reset") P(SETTINGS_ALERT, "", "alert reset") \
+    P(SECTOR_MASS, "protected sector skipped by", "Mass erase") P(SECTOR_FACTORY, "", "Factory reset") \
+    P(SECTOR_ALERT, "", "alert reset") \
+    P(SETTINGS_FACTORY, "protected settings skipped by", "Factory reset") P(SETTINGS_ALERT, "", "alert reset") \
+    P(PLACE_READ, "protected place shown by", "Read back") P(PLACE_VERIFY, "", "Verify") \
+    P(PROGRAM_ALL, "Program refused, protected", "every sector") P(PROGRAM_FIRST, "", "the first, not all") \
+    P(PROGRAM_LATER, "", "a later one, not the first") P(PROGRAM_SETTINGS, "", "settings") \
+    P(FAST_ALL, "Program fast refused, protected", "every sector") P(FAST_FIRST, "", "the first, not all") \
+    P(FAST_LATER, "", "a later one, not the first") P(FAST_SETTINGS, "", "settings") \
+    P(ERASE_ALL, "Range erase refused, protected", "every sector") P(ERASE_FIRST, "", "the first, not all") \
+    P(ERASE_LATER, "", "a later one, not the first") P(ERASE_BETWEEN, "", "one between open ones") \
+    P(ALIGNMENT_SECTOR, "0A before protected", "sector") P(ALIGNMENT_SETTINGS, "", "settings") \
+    P(OUTSIDE_PROGRAM, "outside and protected", "Program") P(OUTSIDE_FAST, "", "Program fast") \
+    P(OUTSIDE_ERASE, "", "Range erase") P(OUTSIDE_BACKWARDS, "", "Range erase, start above end") \
+    P(BESIDE_PROGRAM_AFTER, "done beside a protected sector", "Program after it") \
+    P(BESIDE_PROGRAM_BEFORE, "", "Program before it") \
+    P(BESIDE_PROGRAM_END, "", "Program up to MAIN's end, the bit beyond") \
+    P(BESIDE_ERASE_AFTER, "", "Range erase after it") P(BESIDE_ERASE_BEFORE, "", "Range erase before it") \
+    P(BESIDE_ERASE_END, "", "Range erase up to MAIN's end, the bit beyond") \
     P(FACTORY_OPEN, "Factory reset", "mode 1, L 1") P(FACTORY_OPEN_17, "", "mode 1, L 17") \
     P(FACTORY_RIGHT, "", "mode 2, right") P(FACTORY_WRONG, "", "mode 2, wrong") P(FACTORY_NONE, "", "mode 2, none") \
     P(FAST_LOCKED, "Program fast refused", "locked") P(FAST_LENGTH, "", "L") P(FAST_RANGE, "", "range") \
-    P(FAST_ALIGNMENT, "", "alignment") \
+    P(FAST_ALIGNMENT, "", "alignment") P(FAST_PROTECTED, "", "protected") \
     P(ALIGNMENT_ADDRESS, "alignment", "address only") P(ALIGNMENT_COUNT, "", "data size only") \
     P(RANGE_AND_ALIGNMENT, "", "range before alignment") \
     P(ERASE_WHOLE, "Range erase", "0 to the last byte") P(ERASE_LAST, "", "end the last byte") \

@@ -8,7 +8,7 @@
 /* What an observer looks at. */
 struct sight {
     const struct step *step;
-    const uint8_t *before, *record, *reply, *settings, *fields;
+    const uint8_t *before, *record, *reply, *main_flash, *settings, *fields;
     uint64_t answer;
     uint32_t main_size;
     /* of an acknowledged packet: */
@@ -259,38 +259,124 @@ static void observe_edges(const struct sight *sight, uint32_t first, uint32_t co
             seen_edge(command, (enum edge)edge);
 }
 
-/* How many sectors from one to another are protected. */
-static uint32_t protected_sectors(const struct sight *sight, uint32_t first, uint32_t last)
+/* ---- Protected places ---- */
+
+static bool sector_protected(const struct sight *sight, uint32_t sector)
 {
-    uint32_t count = 0;
-    for (uint32_t sector = first; sector <= last; sector++)
-        count += sight->fields[PROTECTION_AT + sector / 8] / (1u << sector % 8) % 2;
-    return count;
+    return sector < 64 && sight->fields[PROTECTION_AT + sector / 8] / (1u << sector % 8) % 2 == 1;
 }
 
-static bool any_protected(const struct sight *sight)
+static bool settings_protected(const struct sight *sight)
 {
-    return protected_sectors(sight, 0, sight->main_size / SECTOR - 1) > 0;
+    return sight->fields[SETTINGS_PROTECTED_AT] == 1;
+}
+
+/* What of a range is protected, in the order of the coverage points; the last: nothing. */
+enum protection { EVERY_SECTOR, FIRST_SECTOR, LATER_SECTOR, THE_SETTINGS, NOTHING };
+
+/* Of a range that lies in one region. */
+static enum protection protection_of(const struct sight *sight, uint32_t first, uint32_t last)
+{
+    uint32_t start = first / SECTOR, end = last / SECTOR, count = 0;
+    if (first >= SETTINGS_START)
+        return settings_protected(sight) ? THE_SETTINGS : NOTHING;
+    for (uint32_t sector = start; sector <= end; sector++)
+        count += sector_protected(sight, sector);
+    if (count == 0)
+        return NOTHING;
+    if (count == end - start + 1)
+        return EVERY_SECTOR;
+    return sector_protected(sight, start) ? FIRST_SECTOR : LATER_SECTOR;
+}
+
+/* Whether it would show if a refused Program were done: in an open sector, where the range has one. */
+static bool program_would_show(const struct sight *sight, enum protection protection, uint32_t first, uint32_t count)
+{
+    bool partly = protection == FIRST_SECTOR || protection == LATER_SECTOR, in_main = protection != THE_SETTINGS;
+    const uint8_t *flash = in_main ? sight->main_flash + first : sight->settings + (first - SETTINGS_START);
+    const uint8_t *data = sight->core + 5;
+    for (uint32_t i = 0; i < count; i++)
+        if ((flash[i] & data[i]) != flash[i] && !(partly && sector_protected(sight, (first + i) / SECTOR)))
+            return true;
+    return false;
+}
+
+/* The same of a refused Range erase. */
+static bool erase_would_show(const struct sight *sight, enum protection protection, uint32_t first, uint32_t last)
+{
+    for (uint32_t sector = first / SECTOR; sector <= last / SECTOR; sector++)
+        if (!all_ff(sight->main_flash + sector * SECTOR, SECTOR) &&
+            (protection == EVERY_SECTOR || !sector_protected(sight, sector)))
+            return true;
+    return false;
+}
+
+/* Whether an erase of all MAIN has left what a protected sector held, and erased another. */
+static bool has_skipped(const struct sight *sight)
+{
+    bool kept = false, erased = false;
+    for (uint32_t sector = 0; sector < sight->main_size / SECTOR; sector++) {
+        bool blank = all_ff(sight->main_flash + sector * SECTOR, SECTOR);
+        kept = kept || (sector_protected(sight, sector) && !blank);
+        erased = erased || (!sector_protected(sight, sector) && blank);
+    }
+    return kept && erased;
+}
+
+/* A range of MAIN that nothing is protected in, at the edge of a sector that is; `point` is the first of three. */
+static void observe_beside(const struct sight *sight, uint32_t first, uint32_t last, int point)
+{
+    uint32_t next = last + 1;
+    seen_if(first > 0 && first % SECTOR == 0 && sector_protected(sight, first / SECTOR - 1), point);
+    if (next % SECTOR == 0 && sector_protected(sight, next / SECTOR))
+        seen(next < sight->main_size ? point + 1 : point + 2);
+}
+
+/* ---- Program and Range erase ---- */
+
+/* A Program that lies in one region and is aligned. */
+static void observe_whole_program(const struct sight *sight, int outcome, uint32_t first, uint32_t count)
+{
+    bool fast = sight->core[0] == 0x24;
+    enum protection protection = protection_of(sight, first, first + count - 1);
+    if (protection != NOTHING)
+        seen_if(outcome == (fast ? OUTCOME_REFUSED : 0x05) && program_would_show(sight, protection, first, count),
+                (fast ? FAST_ALL : PROGRAM_ALL) + (int)protection);
+    else if (outcome == 0x00 && first < sight->main_size)
+        observe_beside(sight, first, first + count - 1, BESIDE_PROGRAM_AFTER);
 }
 
 static void observe_program(const struct sight *sight, int outcome)
 {
-    bool fast = sight->core[0] == 0x24;
     uint32_t first = read32(sight->core + 1), count = (uint32_t)sight->length - 5;
+    bool aligned = first % 8 == 0 && count % 8 == 0;
     observe_edges(sight, first, count);
-    seen_if(outcome == 0x05 && (first % 8 != 0 || count % 8 != 0), RANGE_AND_ALIGNMENT);
+    seen_if(outcome == 0x05 && !aligned, RANGE_AND_ALIGNMENT);
     seen_if(outcome == 0x0A && count % 8 == 0, ALIGNMENT_ADDRESS);
     seen_if(outcome == 0x0A && first % 8 == 0, ALIGNMENT_COUNT);
-    if (outcome != 0x00 && outcome != OUTCOME_DONE)
-        return;
-    if (first >= SETTINGS_START) {
-        seen_if(sight->fields[SETTINGS_PROTECTED_AT] == 1, fast ? SETTINGS_FAST : SETTINGS_PROGRAM);
+    if (!in_one_region(sight, first, count)) {
+        seen_if(first < sight->main_size && sector_protected(sight, first / SECTOR),
+                sight->core[0] == 0x24 ? OUTSIDE_FAST : OUTSIDE_PROGRAM);
         return;
     }
-    uint32_t start = first / SECTOR, end = (first + count - 1) / SECTOR;
-    uint32_t kept = protected_sectors(sight, start, end);
-    seen_if(kept > 0, fast ? SECTOR_FAST : SECTOR_PROGRAM);
-    seen_if(kept > 0 && kept < end - start + 1, SECTOR_PARTLY);
+    if (aligned)
+        observe_whole_program(sight, outcome, first, count);
+    else if (outcome == 0x0A && protection_of(sight, first, first + count - 1) != NOTHING)
+        seen(first < sight->main_size ? ALIGNMENT_SECTOR : ALIGNMENT_SETTINGS);
+}
+
+/* A Range erase that lies in MAIN. */
+static void observe_whole_erase(const struct sight *sight, int message, uint32_t start, uint32_t end)
+{
+    enum protection protection = protection_of(sight, start, end);
+    if (protection != NOTHING && message == 0x05 && erase_would_show(sight, protection, start, end)) {
+        seen(ERASE_ALL + (int)protection);
+        seen_if(protection == LATER_SECTOR && !sector_protected(sight, end / SECTOR), ERASE_BETWEEN);
+    }
+    if (protection == NOTHING && message == 0x00) {
+        seen_if(start % SECTOR == SECTOR - 1 && end % SECTOR == 0, ERASE_EDGES);
+        observe_beside(sight, start, end, BESIDE_ERASE_AFTER);
+    }
 }
 
 static void observe_range_erase(const struct sight *sight, int message)
@@ -302,18 +388,23 @@ static void observe_range_erase(const struct sight *sight, int message)
     seen_if(start == last + 1 && end >= start, ERASE_START_PAST);
     seen_if(start == end && end <= last, ERASE_ONE);
     seen_if(start == end + 1 && start <= last, ERASE_BACKWARDS);
-    if (message != 0x00)
-        return;
-    seen_if(start % SECTOR == SECTOR - 1 && end % SECTOR == 0, ERASE_EDGES);
-    uint32_t kept = protected_sectors(sight, start / SECTOR, end / SECTOR);
-    seen_if(kept > 0, SECTOR_RANGE);
-    seen_if(kept > 0 && kept < end / SECTOR - start / SECTOR + 1, SECTOR_RANGE_PARTLY);
+    seen_if(start <= last && end > last && sector_protected(sight, start / SECTOR), OUTSIDE_ERASE);
+    seen_if(start <= last && end < start && sector_protected(sight, end / SECTOR), OUTSIDE_BACKWARDS);
+    if (start <= end && end <= last)
+        observe_whole_erase(sight, message, start, end);
+}
+
+static bool shows_protected(const struct sight *sight)
+{
+    uint32_t first = read32(sight->core + 1);
+    return protection_of(sight, first, first + read32(sight->core + 5) - 1) != NOTHING;
 }
 
 static void observe_read_back(const struct sight *sight, int outcome)
 {
     uint32_t count = read32(sight->core + 5);
     observe_edges(sight, read32(sight->core + 1), count);
+    seen_if(outcome == OUTCOME_DATA && shows_protected(sight), PLACE_READ);
     seen_if(count == 0 && outcome == 0x05, READ_0);
     seen_if(count == 1720 && outcome == OUTCOME_DATA, READ_1720);
     seen_if(count == 1721 && outcome == 0x05 && in_one_region(sight, read32(sight->core + 1), count), READ_1721);
@@ -323,6 +414,7 @@ static void observe_verify(const struct sight *sight, int outcome)
 {
     uint32_t count = read32(sight->core + 5);
     observe_edges(sight, read32(sight->core + 1), count);
+    seen_if(outcome == OUTCOME_DATA && shows_protected(sight), PLACE_VERIFY);
     seen_if(count == 1023 && outcome == 0x0B, VERIFY_1023);
     seen_if(count == 1024 && outcome == OUTCOME_DATA, VERIFY_1024);
     seen_if(count == 65536 && outcome == OUTCOME_DATA, VERIFY_65536);
@@ -339,8 +431,8 @@ static void observe_alert(const struct sight *sight)
     if (alert != 1)
         return;
     seen(ALERT_RESET_MODE_0 + sight->fields[RESET_MODE_AT]);
-    seen_if(any_protected(sight), SECTOR_ALERT);
-    seen_if(sight->fields[SETTINGS_PROTECTED_AT] == 1, SETTINGS_ALERT);
+    seen_if(has_skipped(sight), SECTOR_ALERT);
+    seen_if(settings_protected(sight) && !all_ff(sight->settings, SETTINGS_BYTES), SETTINGS_ALERT);
 }
 
 static void observe_unlock(const struct sight *sight, int message)
@@ -358,8 +450,8 @@ static void observe_factory_reset(const struct sight *sight, int message)
     if (message != 0x00)
         return;
     seen(mode == 2 ? FACTORY_RIGHT : sight->length == 1 ? FACTORY_OPEN : FACTORY_OPEN_17);
-    seen_if(any_protected(sight), SECTOR_FACTORY);
-    seen_if(sight->fields[SETTINGS_PROTECTED_AT] == 1, SETTINGS_FACTORY);
+    seen_if(has_skipped(sight), SECTOR_FACTORY);
+    seen_if(settings_protected(sight) && !all_ff(sight->settings, SETTINGS_BYTES), SETTINGS_FACTORY);
 }
 
 static void observe_info(const struct sight *sight)
@@ -383,7 +475,9 @@ static int judge_fast(const struct sight *sight)
     uint32_t first = read32(sight->core + 1), count = (uint32_t)sight->length - 5;
     if (!in_one_region(sight, first, count))
         return FAST_RANGE;
-    return first % 8 != 0 || count % 8 != 0 ? FAST_ALIGNMENT : -1;
+    if (first % 8 != 0 || count % 8 != 0)
+        return FAST_ALIGNMENT;
+    return protection_of(sight, first, first + count - 1) != NOTHING ? FAST_PROTECTED : -1;
 }
 
 /* What became of a command that gets no core reply. */
@@ -436,7 +530,7 @@ static void observe_command(const struct sight *sight, int outcome)
     if (command == 0x19 && outcome == OUTCOME_DATA)
         observe_info(sight);
     if (command == 0x15)
-        seen_if(outcome == 0x00 && any_protected(sight), SECTOR_MASS);
+        seen_if(outcome == 0x00 && has_skipped(sight), SECTOR_MASS);
     if (command == 0x30 && open)
         observe_factory_reset(sight, outcome);
     if (command == 0x23 && open)
@@ -497,6 +591,7 @@ void observe(const struct step *step, const uint8_t *before, const struct side *
                           .before = before,
                           .record = after->area[AREA_RECORD],
                           .reply = after->area[AREA_REPLY],
+                          .main_flash = after->area[AREA_MAIN],
                           .settings = after->area[AREA_SETTINGS],
                           .fields = before + RECORD_FIELDS_AT,
                           .answer = after->answer,

@@ -189,8 +189,9 @@ write-is-one settings image =
 pub is-main-size-is-one : (part : Part) (size : ℕ) → OneAnswer (λ r. r ≡ isMainSize part size)
 is-main-size-is-one part size = as-said (isMainSize part size)
 
-pub locate-is-one : (part : Part) (mainSize first count : ℕ) → OneAnswer (λ r. r ≡ placeOf part mainSize first count)
-locate-is-one part mainSize first count = as-said (placeOf part mainSize first count)
+pub locate-is-one : (part : Part) (mainSize : ℕ) (protection : List ℕ) (settingsProtected first count : ℕ)
+    → OneAnswer (λ r. r ≡ placeOf part mainSize protection settingsProtected first count)
+locate-is-one part mainSize protection settingsProtected first count = as-said (placeOf part mainSize protection settingsProtected first count)
 
 -- of the slice that comes back, the bytes
 pub bytes-in-is-one : (region : Region) (offset size : ℕ) (main image : List ℕ) → OneAnswer (λ r. r ≡ bytesIn offset size (memory main image) region)
@@ -225,9 +226,9 @@ judge-is-one lastRate standing alert wait packet right = as-said (judgedOf lastR
 
 -- ---- session_act
 
-pub plan-is-one : (part : Part) (effect : Effect) (shown : Shown) (mainSize : ℕ) (right : Bool) (main image : List ℕ)
-    → OneAnswer (λ r. r ≡ planOf part mainSize shown right (memory main image) effect)
-plan-is-one part effect shown mainSize right main image = as-said (planOf part mainSize shown right (memory main image) effect)
+pub plan-is-one : (part : Part) (effect : Effect) (shown : Shown) (mainSize : ℕ) (protection : List ℕ) (right : Bool) (main image : List ℕ)
+    → OneAnswer (λ r. r ≡ planOf part mainSize shown protection right (memory main image) effect)
+plan-is-one part effect shown mainSize protection right main image = as-said (planOf part mainSize shown protection right (memory main image) effect)
 
 pub carry-out-is-one : (part : Part) (order : Order) (shown : Shown) (protection packet main image : List ℕ)
     → OneAnswer {A = List ℕ × List ℕ} (λ r. memory (r .0) (r .1) ≡ carriedOut part shown protection packet (memory main image) order)

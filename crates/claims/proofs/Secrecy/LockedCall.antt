@@ -112,9 +112,9 @@ module _ (part : Part) where
       told-whole =
           let right = carriesReset (sessionThen images standing) (sending .packet) in
           let before = later part images standing .memory in
-          plan-is-told-whole part (length (images .main)) (settingsOf images .shown) right before (does .memory) (decided .effect) (sending .packet) area room
+          plan-is-told-whole part (length (images .main)) (settingsOf images .shown) (settingsOf images .protection) right before (does .memory) (decided .effect) (sending .packet) area room
           ∙ ap (λ (beside : List ℕ). whole (replyBytes (hushed (sending .packet) (does .reply)) beside) area)
-          (locked-shows-nothing part (length (images .main)) (settingsOf images .shown) right before (does .memory) (decided .effect) performs-nothing)
+          (locked-shows-nothing part (length (images .main)) (settingsOf images .shown) (settingsOf images .protection) right before (does .memory) (decided .effect) performs-nothing)
 
       -- all that the call leaves follows from the verdict
       pub call-is : called part (later part images standing) sending area ≡ leftThen images standing sending area (verdict images standing sending)

@@ -1,30 +1,47 @@
 -- 01, Settings image: "Bits for sectors beyond MAIN are kept and have no effect." A call leaves the same where only such bits differ.
-use mathlib.Core.Path.{_≡_, refl, sym, ap, _∙_}
+use mathlib.Core.Path.{_≡_, refl, sym, ap, ap₂, _∙_}
 use mathlib.Core.Bool.{Bool, not}
 use mathlib.Core.List.{List}
-use Prim.Native.Nat.{ℕ, _*_, _/_, _<_}
+use Prim.Native.Nat.{ℕ, _+_, _-_, _*_, _/_, _<_}
+use native.Mathlib.Omega.{arith}
+use borrow.Author.Tests.{not-false}
 use lib.Dec.{ltb}
 use lib.ListN.{length}
+use Rattle.octets.specs.Choice.{pick}
 use Rattle.octets.proofs.Searching.{pick-true, pick-false, by-test}
 use Rattle.parts.specs.declared.Part.{Part}
+use Rattle.line.specs.Codes as codes
 use Rattle.line.specs.Codes.{replyLimit}
+use Rattle.line.specs.declared.Guarded.{Guarded}
+use Rattle.line.specs.declared.Guarded.the-variants as guarded
 use Rattle.line.specs.Packet.{dataIn}
 use Rattle.settings.specs.declared.Shown.{Shown}
 use Rattle.flash.specs.Memory.{Memory, memory}
+use Rattle.flash.specs.declared.Place.{Place}
+use Rattle.flash.specs.Regions.{placeOf}
 use Rattle.flash.specs.Protection.{isProtected}
 use Rattle.flash.specs.Erasing.{eraseOf, eraseAllOf}
 use Rattle.flash.proofs.ProtectionLaws.{bits-beyond-have-no-effect}
+use Rattle.flash.proofs.RegionLaws.{places-alike}
 use Rattle.flash.specs.Programming.{programOf}
 use Rattle.session_judge.specs.declared.Effect.{Effect}
+use Rattle.session_judge.specs.declared.Effect.the-variants.{Say, TellInfo, Strike, Perform}
+use Rattle.session_judge.specs.declared.Judged.{Judged}
 use Rattle.session_act.specs.declared.Order.{Order}
 use Rattle.session_act.specs.declared.Order.the-variants.{Keep, EraseBetween, EraseMain, EraseBoth, ProgramMain, ProgramSettings}
+use Rattle.session_act.specs.declared.Planned.{Planned}
 use Rattle.session_act.specs.Board.{acted, board, settingsProtection}
 use Rattle.session_act.specs.Orders.{carriedOut}
-use Rattle.session_act.specs.Acting.{planOf, actOf}
+use Rattle.session_act.specs.Plans.{says, tells}
+use Rattle.session_act.specs.Erasing.{rangeEraseAt, rangeErase}
+use Rattle.session_act.specs.Programming.{programAt}
+use Rattle.session_act.specs.Showing.{readBackAt, verifyAt}
+use Rattle.session_act.specs.Acting.{taskPlanned, planOf, actOf}
 use Rattle.session.specs.declared.Session.{Session}
 use Rattle.session.specs.CallAnswers.{Left, left}
 use Rattle.session.specs.Records.{isRecord}
-use Rattle.session.specs.Calling.{judgement, intent, answered, serveOf, callOf}
+use Rattle.session.proofs.RecordLaws.{record-by-clauses}
+use Rattle.session.specs.Calling.{judgement, answered, serveOf, callOf}
 
 module _ (part : Part) where
   -- bits that say the same of every sector of a memory of so many bytes
@@ -33,7 +50,8 @@ module _ (part : Part) where
 
   -- ---- what is done
 
-  module _ (mainSize : ℕ) (shown : Shown) (bits others : List ℕ) (before : Memory) (agree : AgreeWithin (length (before .main)) bits others) where
+  module _ (mainSize : ℕ) (shown : Shown) (bits others : List ℕ) (before : Memory) (agree : AgreeWithin (length (before .main)) bits others)
+      (whole : length (before .main) ≡ mainSize) where
     erased-same : (first last : ℕ) → eraseOf (part .«sector_size») bits first last (before .main) ≡ eraseOf (part .«sector_size») others first last (before .main)
     unfolding eraseOf
     erased-same first last = bits-beyond-have-no-effect (part .«sector_size») bits others _ (before .main) agree
@@ -57,11 +75,34 @@ module _ (part : Part) where
     order-same packet (ProgramMain offset size) = ap (λ (main : List ℕ). memory main (before .settings)) (programmed-same offset (dataIn size packet))
     order-same packet (ProgramSettings offset size) = refl
 
-    -- and no plan hears of the bits
+    -- a range has the same place, and a command the same plan
+    place-same : (first count : ℕ) → placeOf part mainSize bits (shown .«settings_protected») first count ≡ placeOf part mainSize others (shown .«settings_protected») first count
+    place-same first count =
+        places-alike part mainSize bits others (shown .«settings_protected») first count (λ sector h. agree sector (omega (arith, h, whole)))
+
+    task-same : (right : Bool) (task : Guarded) → taskPlanned part mainSize shown bits right before task ≡ taskPlanned part mainSize shown others right before task
+    unfolding rangeErase
+    task-same right (guarded.RangeErase start end) =
+        ap (λ (place : Place). pick (ltb end start) (tells codes.invalidRange) (rangeEraseAt start end place)) (place-same start (end - start + 1))
+    task-same right guarded.MassErase = refl
+    task-same right (guarded.Program address size silent) = ap (programAt (part .«word_size») address size) (place-same address size)
+    task-same right (guarded.ReadBack address size) = ap (readBackAt (shown .readout) size) (place-same address size)
+    task-same right (guarded.Verify address size) = ap (λ (place : Place). says (verifyAt part size before place)) (place-same address size)
+    task-same right (guarded.FactoryReset with) = refl
+    task-same right guarded.WrongLength = refl
+
+    plan-same : (right : Bool) (effect : Effect) → planOf part mainSize shown bits right before effect ≡ planOf part mainSize shown others right before effect
+    plan-same right (Say reply) = refl
+    plan-same right TellInfo = refl
+    plan-same right Strike = refl
+    plan-same right (Perform task) = task-same right task
+
+    -- so the same is done
     act-same : (right : Bool) (packet : List ℕ) (effect : Effect)
         → actOf (board part mainSize shown bits) right packet before effect ≡ actOf (board part mainSize shown others) right packet before effect
     act-same right packet effect =
-        ap (acted (planOf part mainSize shown right before effect .reply)) (order-same packet (planOf part mainSize shown right before effect .order))
+        ap (acted (planOf part mainSize shown bits right before effect .reply)) (order-same packet (planOf part mainSize shown bits right before effect .order))
+        ∙ ap (λ (planned : Planned). acted (planned .reply) (carriedOut part shown others packet before (planned .order))) (plan-same right effect)
 
   -- ---- a call
 
@@ -83,11 +124,16 @@ module _ (part : Part) where
 
   module _ (session : Session) (bits : List ℕ) (before : Memory) (wait : ℕ) (packet area : List ℕ)
       (agree : AgreeWithin (length (before .main)) bits (session .settings .protection)) where
-    served-same : serveOf part (withBits bits session) before wait packet area ≡ leftWithBits bits (serveOf part session before wait packet area)
+    abbrev judged : Judged
+    judged = judgement (part .«last_rate») session wait packet
+
+    served-same : length (before .main) ≡ session .«main_size»
+        → serveOf part (withBits bits session) before wait packet area ≡ leftWithBits bits (serveOf part session before wait packet area)
     unfolding serveOf
-    served-same =
-        ap (answered (withBits bits session) packet area (judgement (part .«last_rate») session wait packet) (intent part session packet before (judgement (part .«last_rate») session wait packet .effect)))
-        (act-same _ _ bits (session .settings .protection) before agree _ packet (judgement (part .«last_rate») session wait packet .effect))
+    served-same whole =
+        ap₂ (answered (withBits bits session) packet area judged)
+        (plan-same _ _ bits (session .settings .protection) before agree whole _ (judged .effect))
+        (act-same _ _ bits (session .settings .protection) before agree whole _ packet (judged .effect))
 
     -- the answer, how the session stands, both images and the reply area are the same; the bits are kept
     pub bits-beyond-main-have-no-effect : callOf part (withBits bits session) before wait packet area ≡ leftWithBits bits (callOf part session before wait packet area)
@@ -99,5 +145,5 @@ module _ (part : Part) where
         pick-false _ _ n
         ∙ by-test (not (isRecord part session (length (before .main)) (length (before .settings))))
         (λ y. pick-true _ _ y ∙ sym (ap (leftWithBits bits) (pick-true _ _ y)))
-        (λ m. pick-false _ _ m ∙ served-same ∙ sym (ap (leftWithBits bits) (pick-false _ _ m)))
+        (λ m. pick-false _ _ m ∙ served-same (record-by-clauses part session (length (before .main)) (length (before .settings)) (not-false _ m) .main) ∙ sym (ap (leftWithBits bits) (pick-false _ _ m)))
         ∙ sym (ap (leftWithBits bits) (pick-false _ _ n)))

@@ -149,7 +149,7 @@ module _ (part : Part) where
     -- a locked session orders nothing to be done to memory, or what the alert's reset does
     pub locked-session-orders : isUnlocked (session .standing .phase) ≡ false → plans .order ≡ pick (isStrike effect) EraseBoth Keep
     locked-session-orders shut =
-        locked-orders part (session .«main_size») (session .settings .shown) (carriesReset session packet) before effect
+        locked-orders part (session .«main_size») (session .settings .shown) (session .settings .protection) (carriesReset session packet) before effect
         (locked-performs-nothing (part .«last_rate») (session .standing) (session .settings .shown .alert) wait packet _ shut)
 
   -- ---- start

@@ -11,8 +11,8 @@ returns-2 : tie.Need-returns-2
 returns-2 c =
     let done = c .before .before .before .before in
     let made = done .before .before .before .before .before .before .before in
-    let told = made .before .before .before .before in
-    let planned = made .plan .ensures ∙ told .resets .ensures _ _ _ _ in
+    let told = made .before .before .before .before .before .before .before in
+    let planned = made .plan .ensures ∙ told .resets .ensures _ _ _ _ _ in
     (planned, rw (done .carry-out .ensures, planned))
 
 pub act-on-spec : {M : Type 1} → statement M

@@ -28,16 +28,16 @@ unperformed = 0 ∷ 1 ∷ 2 ∷ []
 abbrev others : List ℕ
 others = 0 ∷ 1 ∷ 2 ∷ 3 ∷ 4 ∷ 6 ∷ []
 
-module _ (part : Part) (mainSize : ℕ) (shown : Shown) (one other : Bool) (before : Memory) where
+module _ (part : Part) (mainSize : ℕ) (shown : Shown) (protection : List ℕ) (one other : Bool) (before : Memory) where
   planned-alike : (effect : Effect) → OneOf unperformed (tagOf effect-type.the-type effect)
-      → planOf part mainSize shown one before effect ≡ planOf part mainSize shown other before effect
+      → planOf part mainSize shown protection one before effect ≡ planOf part mainSize shown protection other before effect
   planned-alike (Say reply) h = refl
   planned-alike TellInfo h = refl
   planned-alike Strike h = refl
   planned-alike (Perform task) h = absurd (miss unperformed 3 tt h)
 
   task-alike : (task : Guarded) → OneOf others (tagOf guarded-type.the-type task)
-      → taskPlanned part mainSize shown one before task ≡ taskPlanned part mainSize shown other before task
+      → taskPlanned part mainSize shown protection one before task ≡ taskPlanned part mainSize shown protection other before task
   task-alike (guarded.RangeErase start end) h = refl
   task-alike guarded.MassErase h = refl
   task-alike (guarded.Program address size silent) h = refl
@@ -47,17 +47,17 @@ module _ (part : Part) (mainSize : ℕ) (shown : Shown) (one other : Bool) (befo
   task-alike guarded.WrongLength h = refl
 
 returns : tie.Need-returns
-returns c part mainSize shown before = planned-alike part mainSize shown _ _ before (c .before .before .before .args .effect) (c .match .keys2)
+returns c part mainSize shown protection before = planned-alike part mainSize shown protection _ _ before (c .before .before .before .args .effect) (c .match .keys2)
 
 returns-2 : tie.Need-returns-2
-returns-2 c part mainSize shown before =
+returns-2 c part mainSize shown protection before =
     let told = c .before .before .effect .given in
     let args = c .before .before .before .before .before .before .args in
     let right = areSame (args .password .now) (resetPasswordIn (args .packet .now)) in
-    rw (told .1) (task-alike part mainSize shown false right before (told .0 .0) (c .match2 .keys2))
+    rw (told .1) (task-alike part mainSize shown protection false right before (told .0 .0) (c .match2 .keys2))
 
 returns-3 : tie.Need-returns-3
-returns-3 c part mainSize shown before = rw (c .are-same .ensures, c .before .part-of .ensures)
+returns-3 c part mainSize shown protection before = rw (c .are-same .ensures, c .before .part-of .ensures)
 
 pub resets-spec : {M : Type 1} → statement M
 resets-spec =

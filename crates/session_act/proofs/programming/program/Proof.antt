@@ -20,5 +20,7 @@ program-spec =
     (λ c. search needs)
     (λ c. rw (← c .before .before .before .before .locate .ensures, not-outside _ (c .before .before .before .match .keys2), ← c .before .before .is-aligned .ensures, not-true (c .before .before .is-aligned .result) (c .before .if1 .taken), c .tells2 .ensures))
     (λ c. search needs)
+    (λ c. rw (← c .before .before .before .before .before .locate .ensures, not-outside _ (c .before .before .before .before .match .keys2), ← c .before .before .before .is-aligned .ensures, not-false (c .before .before .before .is-aligned .result) (c .before .before .if1 .left), c .before .if2 .taken, c .tells3 .ensures))
     (λ c. search needs)
-    (λ c. rw (← c .before .before .before .before .before .locate .ensures, not-outside _ (c .before .before .before .before .match .keys2), ← c .before .before .before .is-aligned .ensures, not-false (c .before .before .before .is-aligned .result) (c .before .before .if1 .left), c .orders .ensures, c .before .program-in .ensures)))
+    (λ c. search needs)
+    (λ c. rw (← c .before .before .before .before .before .before .locate .ensures, not-outside _ (c .before .before .before .before .before .match .keys2), ← c .before .before .before .before .is-aligned .ensures, not-false (c .before .before .before .before .is-aligned .result) (c .before .before .before .if1 .left), c .before .before .if2 .left, c .orders .ensures, c .before .program-in .ensures)))
