@@ -40,7 +40,7 @@ module _ (part : Part) (session : Session) (before : Memory) (wait : ℕ) (packe
   unfolding serveOf
   call-size-fits =
       every-call (λ left. left .answer .size ≤ 1729) (λ number. omega arith)
-      (answer-fits _ _ _ packet _ area)
+      (answer-fits _ _ _ _ packet _ area)
 
   -- 01, Phases and waits: "Settings are taken at start": a call changes only how the session stands
   pub call-keeps-settings : after .session ≡ standsThen session (after .session .standing)

@@ -26,11 +26,11 @@ module _ (part : Part) (mainSize : ℕ) (shown : Shown) (protection : List ℕ) 
   few-beside : length (bytesBeside after plans) ≤ readBackMost
   few-beside =
       every-plan (λ planned. length (bytesBeside after planned) ≤ readBackMost) (λ reply order. omega arith)
-      (λ place size few. omega (arith, few, most-asked (place .offset) size after (place .region)))
+      (λ region offset size few. omega (arith, few, most-asked offset size after region))
       part mainSize shown protection right before effect
 
   -- Whatever was decided of a packet: the reply of its plan is sent whole in an area of 1,729 bytes. No call answers with size 0 for want of room.
   pub plan-is-told-whole : (packet area : List ℕ) → replyLimit ≤ length area
-      → answerOf (plans .reply) (plans .place) (plans .count) packet after area
-      ≡ whole (answerBytes (plans .reply) (plans .place) (plans .count) packet after) area
-  plan-is-told-whole packet area room = answer-is-whole (plans .reply) (plans .place) (plans .count) packet after area few-beside room
+      → answerOf (plans .reply) (plans .region) (plans .offset) (plans .count) packet after area
+      ≡ whole (answerBytes (plans .reply) (plans .region) (plans .offset) (plans .count) packet after) area
+  plan-is-told-whole packet area room = answer-is-whole (plans .reply) (plans .region) (plans .offset) (plans .count) packet after area few-beside room

@@ -57,7 +57,7 @@ served session judged acted sent =
 abbrev pub answered : Session → List ℕ → List ℕ → Judged → Planned → Acted → Left
 answered session packet area judged planned acted =
     served session judged acted
-    (answerOf (acted .reply) (planned .place) (planned .count) packet (acted .memory) area)
+    (answerOf (acted .reply) (planned .region) (planned .offset) (planned .count) packet (acted .memory) area)
 
 -- what was judged is followed: plan, carry out, answer
 abbrev pub followed : Part → Session → Memory → List ℕ → List ℕ → Judged → Left

@@ -10,7 +10,6 @@ use crate::Called;
 use crate::Session;
 use crate::passwords;
 use crate::records;
-use flash::Place;
 use flash::Region;
 use line::Reply;
 use line::codes;
@@ -43,12 +42,8 @@ fn says(reply: Reply) -> Planned
     Planned {
         reply,
         order: Order::Keep,
-        place: Place {
-            region: Region::Outside,
-            offset: 0,
-            is_protected: false,
-            first_protected: 0,
-        },
+        region: Region::Outside,
+        offset: 0,
         count: 0,
     }
 }
@@ -125,8 +120,17 @@ fn serve(
     let effect = judged.effect;
     let planned = act_on(part, effect, session, packet, main, image);
     let reply = planned.reply;
-    let place = planned.place;
-    let size = session_send::answer(reply, place, planned.count, packet, main, image, area);
+    let region = planned.region;
+    let size = session_send::answer(
+        reply,
+        region,
+        planned.offset,
+        planned.count,
+        packet,
+        main,
+        image,
+        area,
+    );
     served(session, judged, size)
 }
 

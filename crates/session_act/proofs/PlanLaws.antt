@@ -18,8 +18,8 @@ use Rattle.settings.specs.declared.Shown.{Shown}
 use Rattle.flash.specs.declared.Region.{Region}
 use Rattle.flash.specs.declared.Region.the-variants.{Main, Settings, Outside}
 use Rattle.flash.specs.declared.Place.{Place}
-use Rattle.flash.specs.Regions.{nowhere, placeOf}
-use Rattle.flash.specs.Memory.{Memory, bytesAt}
+use Rattle.flash.specs.Regions.{placeOf}
+use Rattle.flash.specs.Memory.{Memory, bytesIn}
 use Rattle.session_act.specs.declared.Order.{Order}
 use Rattle.session_act.specs.declared.Order.the-variants.{Keep}
 use Rattle.session_act.specs.declared.Planned.{Planned}
@@ -32,8 +32,8 @@ use Rattle.session_act.specs.Acting.{taskPlanned, planOf}
 
 -- ---- a plan shows no byte of memory, or it keeps memory
 
-module _ (P : Planned → Type 0) (shows-none : (reply : Reply) (order : Order) → P (planned reply order nowhere 0))
-    (keeps : (place : Place) (size : ℕ) → size ≤ readBackMost → P (planned Bytes Keep place size)) where
+module _ (P : Planned → Type 0) (shows-none : (reply : Reply) (order : Order) → P (planned reply order Outside 0 0))
+    (keeps : (region : Region) (offset size : ℕ) → size ≤ readBackMost → P (planned Bytes Keep region offset size)) where
   erase-in : (start end : ℕ) (protected : Bool) (region : Region) → P (rangeEraseIn start end protected region)
   erase-in start end protected Main = by-pick P protected _ _ (λ y. shows-none _ _) (λ n. shows-none _ _)
   erase-in start end protected Settings = shows-none _ _
@@ -59,7 +59,7 @@ module _ (P : Planned → Type 0) (shows-none : (reply : Reply) (order : Order) 
       by-pick P (eqb readout readoutOn) _ _
       (λ on. by-pick P (eqb size 0) _ _ (λ y. shows-none _ _)
       (λ some. by-pick P (ltb readBackMost size) _ _ (λ y. shows-none _ _)
-      (λ few. by-pick P (isOutside (place .region)) _ _ (λ y. shows-none _ _) (λ n. keeps place size (ltb-false readBackMost size few)))))
+      (λ few. by-pick P (isOutside (place .region)) _ _ (λ y. shows-none _ _) (λ n. keeps (place .region) (place .offset) size (ltb-false readBackMost size few)))))
       (λ off. shows-none _ _)
 
   reset : (mode : ℕ) (with right : Bool) → P (factoryReset mode with right)
@@ -94,7 +94,7 @@ module _ (P : Planned → Type 0) (shows-none : (reply : Reply) (order : Order) 
 
 -- the bytes of memory that go with a plan's reply
 abbrev pub bytesBeside : Memory → Planned → List ℕ
-bytesBeside memory planned = bytesAt (planned .place) (planned .count) memory
+bytesBeside memory planned = bytesIn (planned .offset) (planned .count) memory (planned .region)
 
 -- the bytes of a plan's reply, those of memory among them
 abbrev pub repliedBy : Memory → Planned → List ℕ
@@ -111,7 +111,7 @@ module _ (part : Part) (shown : Shown) (protection packet : List ℕ) (before : 
   pub bytes-need-no-order : bytesBeside after plans ≡ bytesBeside before plans
   bytes-need-no-order =
       every-plan (λ planned. bytesBeside (carriedOut part shown protection packet before (planned .order)) planned ≡ bytesBeside before planned)
-      (λ reply order. refl) (λ place size few. refl) part mainSize shown protection right before effect
+      (λ reply order. refl) (λ region offset size few. refl) part mainSize shown protection right before effect
 
   -- so a reply can be written before its order is carried out, as a device does that hands the order to a driver
   pub replies-need-no-order : repliedBy after plans ≡ repliedBy before plans

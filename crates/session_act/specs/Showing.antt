@@ -27,7 +27,7 @@ readBackAt readout size place =
     pick (eqb readout readoutOn)
     (pick (eqb size 0) (tells codes.invalidRange)
     (pick (ltb readBackMost size) (tells codes.invalidRange)
-    (pick (isOutside (place .region)) (tells codes.invalidRange) (planned Bytes Keep place size))))
+    (pick (isOutside (place .region)) (tells codes.invalidRange) (planned Bytes Keep (place .region) (place .offset) size))))
     (tells codes.readoutOff)
 
 -- the place is that of so many bytes from the address on

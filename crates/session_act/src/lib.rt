@@ -7,7 +7,7 @@ mod programming;
 mod showing;
 mod telling;
 
-use flash::Place;
+use flash::Region;
 use line::Reply;
 pub use orders::carry_out;
 pub use planning::plan;
@@ -27,6 +27,7 @@ pub enum Order {
 pub struct Planned {
     pub reply: Reply,
     pub order: Order,
-    pub place: Place,
+    pub region: Region,
+    pub offset: usize,
     pub count: u32,
 }

@@ -1,26 +1,21 @@
 // Plans with no bytes beside the answer.
 ghost use mathlib.Core.Path.{_≡_};
-ghost use Rattle.flash.specs.Regions.{nowhere};
+ghost use Rattle.flash.specs.declared.Region.the-variants.{Outside};
 ghost use Rattle.session_act.specs.Plans.{planned, says, tells, orders};
 use crate::Order;
 use crate::Planned;
-use flash::Place;
 use flash::Region;
 use line::Reply;
 
 // An answer, and an order.
 fn planned(reply: Reply, order: Order) -> Planned
-    ensures { λ r. ⌜ r ≡ planned reply order nowhere 0 ⌝ }
+    ensures { λ r. ⌜ r ≡ planned reply order Outside 0 0 ⌝ }
 {
     Planned {
         reply,
         order,
-        place: Place {
-            region: Region::Outside,
-            offset: 0,
-            is_protected: false,
-            first_protected: 0,
-        },
+        region: Region::Outside,
+        offset: 0,
         count: 0,
     }
 }

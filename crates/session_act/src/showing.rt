@@ -51,7 +51,8 @@ pub(crate) fn read_back(
     Planned {
         reply: Reply::Bytes,
         order: Order::Keep,
-        place,
+        region,
+        offset: place.offset,
         count: size,
     }
 }

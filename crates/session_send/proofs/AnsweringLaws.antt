@@ -12,8 +12,8 @@ use Rattle.line.specs.declared.Reply.{Reply}
 use Rattle.line.specs.declared.Reply.the-variants.{Silence, Acknowledged, Message, Info, Bytes, Sum}
 use Rattle.line.specs.Replies.{readBackMost, replyBytes, Sent, sent, sentOf}
 use Rattle.line.proofs.ReplyLaws.{nothing-sent, sent-fits, reply-is-sent}
-use Rattle.flash.specs.declared.Place.{Place}
-use Rattle.flash.specs.Memory.{Memory, bytesAt}
+use Rattle.flash.specs.declared.Region.{Region}
+use Rattle.flash.specs.Memory.{Memory, bytesIn}
 use Rattle.session_send.specs.Answering.{withoutCore, hushed, answerOf}
 
 -- ---- silent commands
@@ -40,11 +40,11 @@ module _ (packet : List ℕ) where
 -- ---- silence
 
 -- where nothing is to be said nothing is sent, whatever the command
-pub silence-sends-nothing : (place : Place) (count : ℕ) (packet : List ℕ) (memory : Memory) (area : List ℕ)
-    → answerOf Silence place count packet memory area ≡ sent 0 area
+pub silence-sends-nothing : (region : Region) (offset count : ℕ) (packet : List ℕ) (memory : Memory) (area : List ℕ)
+    → answerOf Silence region offset count packet memory area ≡ sent 0 area
 unfolding answerOf hushed replyBytes
-silence-sends-nothing place count packet memory area =
-    by-pick (λ reply. sentOf (replyBytes reply (bytesAt place count memory)) area ≡ sent 0 area) (isSilent packet) Silence Silence
+silence-sends-nothing region offset count packet memory area =
+    by-pick (λ reply. sentOf (replyBytes reply (bytesIn offset count memory region)) area ≡ sent 0 area) (isSilent packet) Silence Silence
     (λ y. nothing-sent area) (λ n. nothing-sent area)
 
 -- ---- sizes
@@ -54,17 +54,17 @@ abbrev pub whole : List ℕ → List ℕ → Sent
 whole bytes area = sent (length bytes) (bytes ++ drop (length bytes) area)
 
 -- the bytes of an answer
-abbrev pub answerBytes : Reply → Place → ℕ → List ℕ → Memory → List ℕ
-answerBytes reply place count packet memory = replyBytes (hushed packet reply) (bytesAt place count memory)
+abbrev pub answerBytes : Reply → Region → ℕ → ℕ → List ℕ → Memory → List ℕ
+answerBytes reply region offset count packet memory = replyBytes (hushed packet reply) (bytesIn offset count memory region)
 
-module _ (reply : Reply) (place : Place) (count : ℕ) (packet : List ℕ) (memory : Memory) (area : List ℕ) where
+module _ (reply : Reply) (region : Region) (offset count : ℕ) (packet : List ℕ) (memory : Memory) (area : List ℕ) where
   -- no answer is longer than the area that 01 asks for, whatever is asked and answered
-  pub answer-fits : answerOf reply place count packet memory area .size ≤ replyLimit
+  pub answer-fits : answerOf reply region offset count packet memory area .size ≤ replyLimit
   unfolding answerOf
   answer-fits = sent-fits _ area
 
   -- "Read back of 1,720 bytes fits": in an area of 1,729 bytes an answer with no more bytes beside it is sent whole
-  pub answer-is-whole : length (bytesAt place count memory) ≤ readBackMost → replyLimit ≤ length area
-      → answerOf reply place count packet memory area ≡ whole (answerBytes reply place count packet memory) area
+  pub answer-is-whole : length (bytesIn offset count memory region) ≤ readBackMost → replyLimit ≤ length area
+      → answerOf reply region offset count packet memory area ≡ whole (answerBytes reply region offset count packet memory) area
   unfolding answerOf
-  answer-is-whole few room = reply-is-sent (hushed packet reply) (bytesAt place count memory) area few room
+  answer-is-whole few room = reply-is-sent (hushed packet reply) (bytesIn offset count memory region) area few room

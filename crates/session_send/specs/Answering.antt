@@ -7,8 +7,8 @@ use Rattle.line.specs.Commands.{isSilent}
 use Rattle.line.specs.declared.Reply.{Reply}
 use Rattle.line.specs.declared.Reply.the-variants.{Silence, Acknowledged, Message, Info, Bytes, Sum}
 use Rattle.line.specs.Replies.{replyBytes, Sent, sentOf}
-use Rattle.flash.specs.declared.Place.{Place}
-use Rattle.flash.specs.Memory.{Memory, bytesAt}
+use Rattle.flash.specs.declared.Region.{Region}
+use Rattle.flash.specs.Memory.{Memory, bytesIn}
 
 -- only the 0x00 that a core reply would follow
 abbrev pub withoutCore : Reply → Reply
@@ -25,5 +25,5 @@ hushed packet reply = pick (isSilent packet) (withoutCore reply) reply
 
 -- "Core replies follow the 0x00"; Read back: "30 and the bytes", which stand at a place of memory; "A reply area has at least 1,729 bytes; those past
 -- the reply stay as lent."
-unfoldable pub answerOf : Reply → Place → ℕ → List ℕ → Memory → List ℕ → Sent
-answerOf reply place count packet memory area = sentOf (replyBytes (hushed packet reply) (bytesAt place count memory)) area
+unfoldable pub answerOf : Reply → Region → ℕ → ℕ → List ℕ → Memory → List ℕ → Sent
+answerOf reply region offset count packet memory area = sentOf (replyBytes (hushed packet reply) (bytesIn offset count memory region)) area

@@ -4,7 +4,7 @@ ghost use Rattle.line.specs.Commands.{isSilent};
 ghost use Rattle.line.specs.Replies.{sent};
 ghost use Rattle.flash.specs.Memory.{memory};
 ghost use Rattle.session_send.specs.Answering.{withoutCore, hushed, answerOf};
-use flash::Place;
+use flash::Region;
 use line::CORE_AT;
 use line::Reply;
 use line::codes;
@@ -50,24 +50,24 @@ fn hush(packet: &[u8], reply: Reply) -> Reply
     reply
 }
 
-// Writes what is sent of a reply to the start of an area, and answers its size. The bytes that go with it are so many of a place that
-// was looked up before. A reply for which there is no room, or of more than 1,729 bytes, is not written at all, and the answer is 0.
+// Writes what is sent of a reply to the start of an area, and answers its size. The bytes that go with it are so many of a region, from a
+// place on that was looked up before. A reply for which there is no room, or of more than 1,729 bytes, is not written at all, and the answer is 0.
 pub fn answer<'a>(
     reply: Reply,
-    place: Place,
+    region: Region,
+    offset: usize,
     count: u32,
     packet: &[u8],
     main: &'a [u8],
     image: &'a [u8],
     area: &mut [u8],
 ) -> usize
-    ensures { λ r. ⌜ sent r (now (area .exit)) ≡ answerOf reply place count (now (packet .entry)) (memory (now (main .entry)) (now (image .entry))) (now (area .entry)) ⌝ }
+    ensures { λ r. ⌜ sent r (now (area .exit)) ≡ answerOf reply region offset count (now (packet .entry)) (memory (now (main .entry)) (now (image .entry))) (now (area .entry)) ⌝ }
 {
     if let Reply::Silence = reply {
         return 0;
     }
     let told = hush(packet, reply);
-    let region = place.region;
-    let bytes = flash::bytes_in(region, place.offset, count as usize, main, image);
+    let bytes = flash::bytes_in(region, offset, count as usize, main, image);
     line::write_reply(told, bytes, area)
 }

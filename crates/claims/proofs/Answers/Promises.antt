@@ -32,7 +32,6 @@ use Rattle.settings.specs.declared.Refusal.{Refusal}
 use Rattle.settings.specs.Answers.{numbered, refusalNumbered, readTold, writeLeft, writeNumber}
 use Rattle.settings.specs.Reader.{readOf}
 use Rattle.settings.specs.Writer.{writeOf}
-use Rattle.flash.specs.declared.Place.{Place}
 use Rattle.flash.specs.declared.Region.{Region}
 use Rattle.flash.specs.Regions.{isMainSize, placeOf}
 use Rattle.flash.specs.Memory.{memory, bytesIn}
@@ -238,9 +237,9 @@ carry-out-is-one part order shown protection packet main image =
 
 -- ---- session_send
 
-pub answer-is-one : (reply : Reply) (place : Place) (count : ℕ) (packet main image area : List ℕ)
-    → OneAnswer {A = ℕ × List ℕ} (λ r. sent (r .0) (r .1) ≡ answerOf reply place count packet (memory main image) area)
-answer-is-one reply place count packet main image area = sent-is-one (answerOf reply place count packet (memory main image) area)
+pub answer-is-one : (reply : Reply) (region : Region) (offset count : ℕ) (packet main image area : List ℕ)
+    → OneAnswer {A = ℕ × List ℕ} (λ r. sent (r .0) (r .1) ≡ answerOf reply region offset count packet (memory main image) area)
+answer-is-one reply region offset count packet main image area = sent-is-one (answerOf reply region offset count packet (memory main image) area)
 
 -- ---- session: its calls
 

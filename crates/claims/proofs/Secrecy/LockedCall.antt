@@ -107,7 +107,7 @@ module _ (part : Part) where
       plans = intent part (sessionThen images standing) (sending .packet) (later part images standing .memory) (decided .effect)
 
       -- the reply is sent whole, with no bytes of memory beside it
-      told-whole : answerOf (does .reply) (plans .place) (plans .count) (sending .packet) (does .memory) area
+      told-whole : answerOf (does .reply) (plans .region) (plans .offset) (plans .count) (sending .packet) (does .memory) area
           ≡ whole (bytesThen images standing sending (decided .effect)) area
       told-whole =
           let right = carriesReset (sessionThen images standing) (sending .packet) in

@@ -139,8 +139,8 @@ module _ (part : Part) where
     plans = intent part session packet before effect
 
     -- no reply depends on memory after the order: written before it or after it, what is sent is the same
-    pub answer-needs-no-order : answerOf (plans .reply) (plans .place) (plans .count) packet (deed part session packet before effect .memory) area
-        ≡ answerOf (plans .reply) (plans .place) (plans .count) packet before area
+    pub answer-needs-no-order : answerOf (plans .reply) (plans .region) (plans .offset) (plans .count) packet (deed part session packet before effect .memory) area
+        ≡ answerOf (plans .reply) (plans .region) (plans .offset) (plans .count) packet before area
     unfolding answerOf
     answer-needs-no-order =
         ap (λ (beside : List ℕ). sentOf (replyBytes (hushed packet (plans .reply)) beside) area)

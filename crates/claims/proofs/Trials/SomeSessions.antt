@@ -24,7 +24,7 @@ use Rattle.session_state.specs.Phases.{mostSleep, atStart}
 use Rattle.settings.specs.declared.Settings.{Settings}
 use Rattle.settings.specs.Answers.{ReadTold}
 use Rattle.flash.specs.Memory.{Memory, memory}
-use Rattle.flash.specs.Regions.{nowhere}
+use Rattle.flash.specs.declared.Region.the-variants.{Outside}
 use Rattle.flash.specs.Protection.{isProtected, mayChange}
 use Rattle.flash.specs.Erasing.{eraseAllOf}
 use Rattle.flash.proofs.ErasingLaws.{erase-all-keeps-length, erase-all-of-open, erase-all-of-protected, erase-all-in-one-sector}
@@ -124,7 +124,7 @@ module _ (session : Session) (before : Memory) (byte code : ℕ) (standing : Sta
   unfolding bytesOf isOneOf pick
   reply-is-message =
       ap (λ (sent : Sent). take (sent .size) (sent .area))
-      (answer-is-whole (Message code) nowhere 0 (unlocks byte .packet) before (unlocks byte .oneArea) (omega arith) (room 0))
+      (answer-is-whole (Message code) Outside 0 0 (unlocks byte .packet) before (unlocks byte .oneArea) (omega arith) (room 0))
       ∙ take-append-seam (replyBytes (hushed (unlocks byte .packet) (Message code)) []) _
       ∙ ap (λ (reply : Reply). replyBytes reply []) (others-are-told (unlocks byte .packet) (Message code) refl)
 

@@ -7,7 +7,7 @@ use Rattle.session_send.proofs.answer.Statement.{statement}
 use Rattle.session_send.proofs.answer.Tie as tie
 
 returns : tie.Need-returns
-returns c = rw (c .enum-told .given .1) (sym (silence-sends-nothing _ _ _ _ _))
+returns c = rw (c .enum-told .given .1) (sym (silence-sends-nothing _ _ _ _ _ _))
 
 returns-2 : tie.Need-returns-2
 unfolding answerOf

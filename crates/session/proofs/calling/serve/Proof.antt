@@ -10,7 +10,7 @@ returns : tie.Need-returns
 unfolding serveOf
 returns c =
     let told = c .before .before .before in
-    let done = told .before .before .before .before .before .before .before .before .before in
+    let done = told .before .before .before .before .before .before .before .before in
     let after = ap (λ (acted : Acted). acted .memory) (done .act-on .ensures .1) in
     rw (← done .before .before .before .judge-packet .ensures, ← after, ← done .act-on .ensures .0, ← told .answer .ensures, c .served .ensures .0, c .served .ensures .1)
 
