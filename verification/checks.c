@@ -264,15 +264,21 @@ static void check_field_names(void)
 
 enum { CORE_MOST = 33, NO_MESSAGE = 0x100 };
 
-/* Sends a core. What is told: the number of the message, or NO_MESSAGE where 00 is all that is sent. */
-static unsigned told(struct areas *areas, const uint8_t *core, size_t length)
+/* Sends a core in its frame. */
+static uint64_t send_core(struct areas *areas, const uint8_t *core, size_t length)
 {
     uint8_t packet[CORE_MOST + 7] = {0x80, (uint8_t)length, 0x00};
     uint32_t sum = checksum(core, length);
     memcpy(packet + 3, core, length);
     for (unsigned i = 0; i < 4; i++)
         packet[3 + length + i] = (uint8_t)(sum >> 8 * i);
-    uint64_t answer = call(areas, right_sizes, packet, length + 7);
+    return call(areas, right_sizes, packet, length + 7);
+}
+
+/* What is told of a core: the number of the message, or NO_MESSAGE where 00 is all that is sent. */
+static unsigned told(struct areas *areas, const uint8_t *core, size_t length)
+{
+    uint64_t answer = send_core(areas, core, length);
     check("acknowledged", 0x00, areas->reply[0]);
     if (answer == 1)
         return NO_MESSAGE;
@@ -281,10 +287,18 @@ static unsigned told(struct areas *areas, const uint8_t *core, size_t length)
     return areas->reply[5];
 }
 
+/* Connect, and an Unlock with the password of a blank board. */
+static void unlock(struct areas *areas)
+{
+    uint8_t core[33] = {0x21};
+    memset(core + 1, 0xFF, 32);
+    call(areas, right_sizes, connect_packet, sizeof connect_packet);
+    check("Unlock", 0x00, told(areas, core, sizeof core));
+}
+
 /* An unlocked board whose sector 1 and settings are protected. MAIN holds 0x5A, so that both an erase and a Program show. */
 static struct areas protected_board(void)
 {
-    uint8_t unlock[33] = {0x21};
     struct areas areas = blank_board();
     write_image(&areas);
     areas.fields[BHORELMU_FIELD_SETTINGS_PROTECTED] = 1;
@@ -292,9 +306,7 @@ static struct areas protected_board(void)
     check("protected settings", 0, bhorelmu_settings_write(areas.fields, 74, areas.settings, 1024));
     memset(areas.main_flash, 0x5A, sizeof areas.main_flash);
     check("start with them", 0, start(&areas, 0, MAIN_SIZE, 1024, BHORELMU_RECORD_SIZE));
-    call(&areas, right_sizes, connect_packet, sizeof connect_packet);
-    memset(unlock + 1, 0xFF, 32);
-    check("Unlock", 0x00, told(&areas, unlock, sizeof unlock));
+    unlock(&areas);
     return areas;
 }
 
@@ -334,6 +346,8 @@ static void check_skipped_places(void)
     static const uint8_t sector[9] = {0x23, 0x00, 0x0C, 0x00, 0x00, 0xFF, 0x0F};
     static const uint8_t mass_erase[] = {0x15}, factory_reset[] = {0x30};
     struct areas areas = protected_board();
+    memset(areas.main_flash + 1016, 0xFF, 8);
+    memset(areas.main_flash + 2048, 0xFF, 8);
     struct areas started = areas;
     check("Program up to sector 1", 0x00, told(&areas, before, sizeof before));
     check("Program from sector 2 on", 0x00, told(&areas, after, sizeof after));
@@ -346,6 +360,36 @@ static void check_skipped_places(void)
     check("Factory reset", 0x00, told(&areas, factory_reset, sizeof factory_reset));
     check("the settings stay", 0, (unsigned)memcmp(started.settings, areas.settings, sizeof areas.settings) != 0);
     check("so does sector 1", 0, (unsigned)memcmp(started.main_flash + 1024, areas.main_flash + 1024, 1024) != 0);
+}
+
+/* A Program of some words over what stands there: 16 bytes from 0 on, and what the board answers. */
+static void check_second_write(struct areas *areas, const char *what, uint8_t code, uint8_t data)
+{
+    static const uint8_t detailed_error[12] = {0x00, 0x08, 0x04, 0x00, 0x3A, 0xF0, 0x00, 0x00, 0xF6, 0x4B, 0xE9, 0xF4};
+    struct areas before = *areas;
+    uint8_t core[21] = {code};
+    size_t sent = code == 0x20 ? sizeof detailed_error : 1;
+    memset(core + 5, data, 16);
+    check(what, sent, send_core(areas, core, sizeof core));
+    check("its bytes", 0, (unsigned)memcmp(detailed_error, areas->reply, sent) != 0);
+    check("MAIN is as it was", 0, (unsigned)memcmp(before.main_flash, areas->main_flash, MAIN_SIZE) != 0);
+}
+
+/* A word that holds something cannot be written again, whatever is to be written. */
+static void check_written_words(void)
+{
+    static const uint8_t first_word[13] = {0x20}, second_word[13] = {0x20, 0x08}, mass_erase[] = {0x15};
+    struct areas areas = blank_board();
+    check("start of a blank board", 0, start(&areas, 0, MAIN_SIZE, 1024, BHORELMU_RECORD_SIZE));
+    unlock(&areas);
+    check("Program of a blank word", 0x00, told(&areas, first_word, sizeof first_word));
+    check("it is done", 0, areas.main_flash[0] | areas.main_flash[7]);
+    check_second_write(&areas, "the first word is written", 0x20, 0x00);
+    check_second_write(&areas, "data of 0xFF", 0x20, 0xFF);
+    check_second_write(&areas, "0x24 is silent", 0x24, 0x00);
+    check("Mass erase", 0x00, told(&areas, mass_erase, sizeof mass_erase));
+    check("Program of the second word", 0x00, told(&areas, second_word, sizeof second_word));
+    check_second_write(&areas, "the last word is written", 0x20, 0x00);
 }
 
 static void check_rates(void)
@@ -368,6 +412,7 @@ int main(void)
     check_field_names();
     check_refused_places();
     check_skipped_places();
+    check_written_words();
     check_rates();
     printf("%u checks, %u failed\n", checks, failures);
     return failures != 0;

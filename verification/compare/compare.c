@@ -11,6 +11,7 @@
 #include "boards.h"
 #include "coverage.h"
 #include "dice.h"
+#include "finding.h"
 #include "observe.h"
 #include "script.h"
 #include "sessions.h"
@@ -20,7 +21,6 @@
 
 #include <signal.h>
 #include <stdlib.h>
-#include <string.h>
 
 enum { CALLS_A_SEED = 100, GATE_CALLS = 200000, SEEDS_A_LINE = 5000 };
 
@@ -40,11 +40,10 @@ static void break_down(int signal_number)
 /* Takes a new step and keeps it in the script. */
 static bool step_agrees(struct sides *sides, struct step step)
 {
-    uint8_t before[RECORD_ROOM];
+    struct finding found = look(&step, &sides->model);
     script.steps[script.count++] = step;
-    memcpy(before, sides->model.area[AREA_RECORD], sizeof before);
     take_step(sides, &step);
-    observe(&step, before, &sides->model);
+    observe(&step, &found, &sides->model);
     return sides_agree(sides);
 }
 

@@ -14,7 +14,7 @@ for source in $comparison_sources; do
     $compile -c "$source" -o "$work/$(basename "$source" .c).o" || exit 2
 done
 
-# A mistake: its name, then how sed puts it into model.c.
+# A mistake: its name, then how sed puts it into model.c. That Program stores and makes no AND is none: it programs what is 0xFF (T-02).
 missed=0
 tried=0
 while IFS='@' read -r mistake edit; do
@@ -41,13 +41,32 @@ checksum inverted at the end@s/return sum;/return ~sum;/
 L checked before the lock@s/is_protected(command) && !loader->unlocked)/is_protected(command) \&\& !loader->unlocked \&\& length_right(command, length))/
 range checked before the lock@s/    enum message refusal = standing.*/&\n    if (core[0] == PROGRAM \&\& length > 5 \&\& locate(loader, get32(core + 1), length - 5) == NULL) return send_message(reply, RANGE_INVALID);/
 password compared with the flash@s/memcmp(core + 1, loader->fields + PASSWORD,/memcmp(core + 1, loader->settings + BODIES_AT,/
-message sent after 0x24@s/^        program(loader, core, length);/        return send_message(reply, program(loader, core, length));/
+message sent after 0x24@s/^        program(loader, core, length);/        return send_outcome(reply, program(loader, core, length));/
+message sent after a 0x24 that is not blank@s/^        program(loader, core, length);/        if (program(loader, core, length) == FLASH_ERROR) return send_outcome(reply, FLASH_ERROR);/
 address and size added in 32 bits@/^static uint8_t \*locate/,/^}/s/    if (first < loader->main_size)$/    if (first >= loader->main_size \&\& (uint32_t)(first + count) <= loader->main_size) return loader->main_flash;\n&/
 settings one byte longer@s/count <= SETTINGS_SIZE - offset/count <= SETTINGS_SIZE + 1 - offset/
 alignment before range@/^static enum message program/,/^}/s/    if (place == NULL)/    if (place == NULL \&\& first % 8 == 0 \&\& count % 8 == 0)/
 alignment to 4@s/PROGRAM_UNIT = 8/PROGRAM_UNIT = 4/
 data size need not be aligned@s/first % PROGRAM_UNIT != 0 || count % PROGRAM_UNIT != 0/first % PROGRAM_UNIT != 0/
-program writes instead of AND@s/place\[i\] &= core\[5 + i\]/place[i] = core[5 + i]/
+words not looked at@s/if (!all_ones(place, count))/if (0)/
+only the first word looked at@s/!all_ones(place, count)/!all_ones(place, PROGRAM_UNIT)/
+only the last word looked at@s/!all_ones(place, count)/!all_ones(place + count - PROGRAM_UNIT, PROGRAM_UNIT)/
+only the first byte of each word looked at@s/if (!all_ones(place, count))/bool blank = true;\n    for (uint32_t i = 0; i < count; i += PROGRAM_UNIT) blank = blank \&\& place[i] == 0xFF;\n    if (!blank)/
+data of 0xFF written over any word@s/!all_ones(place, count)/!all_ones(place, count) \&\& !all_ones(core + 5, count)/
+a word refused only where a bit would be set@s/if (!all_ones(place, count))/bool sets = false;\n    for (uint32_t i = 0; i < count; i++) sets = sets || (core[5 + i] \& ~place[i]) != 0;\n    if (sets)/
+the same data written again taken@s/!all_ones(place, count)/!all_ones(place, count) \&\& memcmp(place, core + 5, count) != 0/
+words before the bad one written@s/^    if (!all_ones(place, count))/    for (uint32_t i = 0; i < count \&\& all_ones(place + i, PROGRAM_UNIT); i += PROGRAM_UNIT) if (!all_ones(place, count)) memcpy(place + i, core + 5 + i, PROGRAM_UNIT);\n&/
+words of the settings not looked at@s/!all_ones(place, count)/first < loader->main_size \&\& !all_ones(place, count)/
+words not looked at by 0x24@s/!all_ones(place, count)/core[0] == PROGRAM \&\& !all_ones(place, count)/
+the word after the range looked at too@s/!all_ones(place, count)/!all_ones(place, first + count + PROGRAM_UNIT <= loader->main_size ? count + PROGRAM_UNIT : count)/
+not blank before 0A@s/^    if (first % PROGRAM_UNIT != 0 ||/    if (!all_ones(place, count)) return FLASH_ERROR;\n&/
+not blank before protected@/^static enum message program/,/^}/s/^    if (range_protected(loader, first,/    if (!all_ones(place, count)) return FLASH_ERROR;\n&/
+not blank told as 05@/if (!all_ones(place, count))/{n;s/FLASH_ERROR/RANGE_INVALID/}
+not blank told as a message F0@s/    if (outcome != FLASH_ERROR)/    if (1)/
+Detailed Error without its details@s/    return 4;/    return 2;/
+Detailed Error with one detail@s/    return 4;/    return 3;/
+details other than 0@s/put16(reply + 2, 0); /put16(reply + 2, 1); /
+not blank locks@/if (!all_ones(place, count))/{n;s/return FLASH_ERROR/return loader->unlocked = false, FLASH_ERROR/}
 program ignores protected sectors@s/if (range_protected(loader, first,/if (first >= loader->main_size \&\& range_protected(loader, first,/
 program ignores protected settings@s/if (range_protected(loader, first,/if (first < loader->main_size \&\& range_protected(loader, first,/
 settings' bit taken for set@s/return loader->fields\[SETTINGS_PROTECTED\];/return true;/

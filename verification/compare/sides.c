@@ -49,7 +49,14 @@ static void set_noise(struct sides *sides, enum area area, uint64_t seed)
     memcpy(sides->model.area[area], bytes, rooms[area]);
 }
 
-/* Pattern 0: blank; 1: zeros; 2: noise; 3: some sectors noise, the others blank. */
+/* A word here and there with one bit that is 0. */
+static void write_few(struct dice *dice, uint8_t *bytes, size_t count)
+{
+    for (size_t at = below(dice, 64); at < count; at += 1 + below(dice, 64))
+        bytes[at] ^= (uint8_t)(1u << below(dice, 8));
+}
+
+/* Pattern 0: blank; 1: zeros; 2: noise; 3: some sectors noise, the others blank; 4: blank but for a few bits. */
 static void set_main(struct sides *sides, const struct step *step)
 {
     struct dice dice = {step->fill};
@@ -59,6 +66,8 @@ static void set_main(struct sides *sides, const struct step *step)
         memset(bytes + at, step->number == 1 ? 0x00 : 0xFF, count);
         if (step->number == 2 || (step->number == 3 && chance(&dice, 50)))
             noise(&dice, bytes + at, count);
+        if (step->number == 4)
+            write_few(&dice, bytes + at, count);
     }
     memcpy(sides->model.area[AREA_MAIN], bytes, step->main_size);
 }

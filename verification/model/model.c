@@ -295,10 +295,10 @@ static uint8_t acknowledgement(const uint8_t *packet, size_t size)
 enum message {
     DONE = 0x00, LOCKED = 0x01, PASSWORD_WRONG = 0x02, ALERTED = 0x03, UNKNOWN_COMMAND = 0x04, RANGE_INVALID = 0x05,
     COMMAND_INVALID = 0x06, RESET_DISABLED = 0x07, RESET_PASSWORD_WRONG = 0x08, READOUT_DISABLED = 0x09,
-    NOT_ALIGNED = 0x0A, VERIFY_TOO_SHORT = 0x0B
+    NOT_ALIGNED = 0x0A, VERIFY_TOO_SHORT = 0x0B, FLASH_ERROR = 0xF0 /* no message: sent as a Detailed Error */
 };
 
-enum core_reply { MEMORY = 0x30, DEVICE_INFO = 0x31, VERIFY_CHECKSUM = 0x32, MESSAGE = 0x3B };
+enum core_reply { MEMORY = 0x30, DEVICE_INFO = 0x31, VERIFY_CHECKSUM = 0x32, DETAILED_ERROR = 0x3A, MESSAGE = 0x3B };
 
 enum { READ_BACK_LARGEST = CORE_LARGEST - 1, VERIFY_LEAST = 1024, PROGRAM_UNIT = 8 };
 
@@ -397,8 +397,9 @@ static enum message program(struct loader *loader, const uint8_t *core, size_t l
         return NOT_ALIGNED;
     if (range_protected(loader, first, first + count - 1))
         return RANGE_INVALID;
-    for (uint32_t i = 0; i < count; i++)
-        place[i] &= core[5 + i];
+    if (!all_ones(place, count))
+        return FLASH_ERROR;
+    memcpy(place, core + 5, count);
     return DONE;
 }
 
@@ -460,6 +461,16 @@ static size_t send_message(uint8_t *reply, enum message message)
     reply[0] = MESSAGE;
     reply[1] = (uint8_t)message;
     return 2;
+}
+
+static size_t send_outcome(uint8_t *reply, enum message outcome)
+{
+    if (outcome != FLASH_ERROR)
+        return send_message(reply, outcome);
+    reply[0] = DETAILED_ERROR;
+    reply[1] = FLASH_ERROR;
+    put16(reply + 2, 0); /* two details */
+    return 4;
 }
 
 static size_t info(const struct loader *loader, uint8_t *reply)
@@ -527,7 +538,7 @@ static size_t act(struct loader *loader, const uint8_t *core, size_t length, uin
         erase_main(loader);
         return send_message(reply, DONE);
     case PROGRAM:
-        return send_message(reply, program(loader, core, length));
+        return send_outcome(reply, program(loader, core, length));
     case PROGRAM_FAST:
         program(loader, core, length);
         return 0;

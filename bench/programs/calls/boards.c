@@ -69,9 +69,9 @@ static size_t fill_body(const struct bench_case *bench_case, const struct board 
         put32(body, bench_case->first);
         put32(body + 4, bench_case->second);
         return 8;
-    case DATA:
+    case DATA: /* 0xFF, so that the next call finds blank places too */
         put32(body, bench_case->first);
-        memcpy(body + 4, board->main_flash + 333, bench_case->second);
+        memset(body + 4, 0xFF, bench_case->second);
         return 4 + bench_case->second;
     case PASSWORD:
     case WRONG_PASSWORD: /* wrong in the byte `first` */
@@ -101,6 +101,17 @@ static void fill_packet(const struct bench_case *bench_case, struct board *board
     board->packet_size = length + FRAME_SIZE;
 }
 
+/* The places of a Program are blank, but for the last byte where it is to be told that they are not. */
+static void blank_places(const struct bench_case *bench_case, struct board *board)
+{
+    if (bench_case->body != DATA)
+        return;
+    uint8_t *places = bench_case->first == SETTINGS_AT ? board->settings : board->main_flash + bench_case->first;
+    memset(places, 0xFF, bench_case->second);
+    if (bench_case->answer == DETAILED_ERROR_REPLY)
+        places[bench_case->second - 1] = 0;
+}
+
 void make_board(const struct bench_case *bench_case, struct board *board)
 {
     uint32_t noise = 1;
@@ -110,5 +121,6 @@ void make_board(const struct bench_case *bench_case, struct board *board)
     }
     fill_settings(board, bench_case->preset);
     fill_record(board, main_size_of(bench_case), bench_case->state);
+    blank_places(bench_case, board);
     fill_packet(bench_case, board);
 }

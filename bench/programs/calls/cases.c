@@ -4,7 +4,6 @@ enum { KIB = 1024 };
 enum { MESSAGE_REPLY = 10, INFO_REPLY = 33, SUM_REPLY = 13, READ_BACK_FRAME = 9 };
 
 #define REFUSED(number) ((uint64_t)(number) << 56)
-#define SETTINGS_AT 0x41C00000u
 
 const struct bench_case bench_cases[] = {
     {"Connect", "in detect", .state = IN_DETECT, .code = 0x12, .answer = 1},
@@ -65,6 +64,8 @@ const struct bench_case bench_cases[] = {
      .answer = MESSAGE_REPLY, .message = 5},
     {"Told: protected", "Program 1,712", 1712, .preset = ALL_PROTECTED, .code = 0x20, .body = DATA, .first = 2048,
      .second = 1712, .answer = MESSAGE_REPLY, .message = 5},
+    {"Told: not blank", "Program 1,712", 1712, .code = 0x20, .body = DATA, .first = 2048, .second = 1712,
+     .answer = DETAILED_ERROR_REPLY},
     {"Unknown command", "", .code = 0x77, .answer = MESSAGE_REPLY, .message = 4},
     {"Damaged packet", "8", 8, .code = 0x12, .damage = WRONG_CHECKSUM, .answer = 1},
     {"Damaged packet", "1,728", 1728, .code = 0x20, .body = DATA, .second = 1716, .damage = WRONG_CHECKSUM, .answer = 1},

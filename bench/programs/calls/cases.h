@@ -8,7 +8,9 @@
 /* What is timed: one call of one function, on a board and with a packet that are made new for it. */
 
 enum { MAIN_MOST = 65536, SETTINGS_SIZE = 1024, RECORD_SIZE = 90, FIELDS_SIZE = 74 };
-enum { REPLY_SIZE = 1729, PACKET_MOST = 1728, PASSWORD_SIZE = 32 };
+enum { REPLY_SIZE = 1729, PACKET_MOST = 1728, PASSWORD_SIZE = 32, DETAILED_ERROR_REPLY = 12 };
+
+#define SETTINGS_AT 0x41C00000u
 
 /* The first of each is what most cases have. */
 enum function { CALL, START, SETTINGS_READ, SETTINGS_WRITE, RATE };
@@ -29,7 +31,7 @@ struct bench_case {
 
     uint8_t code; /* of the command; 0: an empty packet */
     enum body body;
-    uint32_t first, second; /* numbers of the body; `second` is the size of data */
+    uint32_t first, second; /* numbers of the body; `second` is the size of data, whose places are blank before the call */
     enum damage damage;
 
     uint64_t answer; /* what the call must answer */

@@ -17,5 +17,7 @@ pub mod BoundaryRule
 pub mod ScriptRule
 -- VerifyRule: a test that Verify had changed no reply.
 pub mod VerifyRule
--- ProtectedRule: Range erase and Program are refused exactly where they would touch a protected place.
+-- ProtectedRule: Range erase and Program are refused where they would touch a protected place, and Range erase nowhere else.
 pub mod ProtectedRule
+-- WrittenRule: Program is refused exactly where a word is written already, and leaves its data where none is.
+pub mod WrittenRule

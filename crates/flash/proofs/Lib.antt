@@ -9,5 +9,7 @@ pub mod KeptLaws
 pub mod ErasingLaws
 -- ProgrammingLaws: what a program leaves, for sectors of any size and any protection bytes.
 pub mod ProgrammingLaws
+-- WordLaws: words that are looked at byte by byte, and what a program leaves where all are blank.
+pub mod WordLaws
 -- RegionLaws: what an answer of the range check says of the range, and how many bytes a range has.
 pub mod RegionLaws

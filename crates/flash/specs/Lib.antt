@@ -11,3 +11,5 @@ pub mod Memory
 pub mod Erasing
 -- Programming: what a program leaves; its definition names the sentence of document 01.
 pub mod Programming
+-- Words: whether a word of a range is written already.
+pub mod Words

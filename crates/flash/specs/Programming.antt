@@ -7,7 +7,8 @@ use Rattle.octets.specs.Choice.{pick}
 use Rattle.flash.specs.Places.{isBetween}
 use Rattle.flash.specs.Protection.{changed}
 
--- "Each byte becomes old AND new", from a place on, as far as the memory reaches
+-- "Each byte becomes old AND new", from a place on, as far as the memory reaches; T-02: Program "must first see that each word it would touch
+-- is all 0xFF", and on these it leaves the new bytes
 unfoldable pub programOf : ℕ → List ℕ → ℕ → List ℕ → List ℕ → List ℕ
 programOf sectorSize protection at bytes memory =
     changed sectorSize protection

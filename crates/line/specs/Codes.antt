@@ -100,6 +100,16 @@ verifyReply = 0x32
 abbrev pub messageReply : ℕ
 messageReply = 0x3B
 
+-- T-02: "the Detailed Error of source document 004: 3A, F0, then two detail bytes, 0 in our model"; 004, 4.4.2
+abbrev pub detailedErrorReply : ℕ
+detailedErrorReply = 0x3A
+
+abbrev pub flashError : ℕ
+flashError = 0xF0
+
+abbrev pub noDetail : ℕ
+noDetail = 0
+
 -- 01, Commands, at each command; 004, 4.4.1
 abbrev pub success : ℕ
 success = 0x00

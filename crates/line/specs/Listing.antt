@@ -10,7 +10,7 @@ use Rattle.line.specs.declared.Guarded.the-variants.{MassErase}
 use Rattle.line.specs.declared.Command.{Command}
 use Rattle.line.specs.declared.Command.the-variants as command
 use Rattle.line.specs.declared.Reply.{Reply}
-use Rattle.line.specs.declared.Reply.the-variants.{Acknowledged, Message, Info}
+use Rattle.line.specs.declared.Reply.the-variants.{Acknowledged, Message, Info, FlashError}
 use Rattle.line.specs.Codes.{acknowledged, locked, isOneOf}
 use Rattle.line.specs.Acknowledgement.{isRate, checksumDiffers, rateUnknown, acknowledgement}
 use Rattle.line.specs.Commands.{lengthFits, guardedOf, openOf, guardedIn, commandOf}
@@ -53,3 +53,10 @@ listed k = record { acknowledgement = acknowledged; command = k .command; sent =
 pub listing-holds : (lastRate : ℕ) → map (seen lastRate) listing ≡ map listed listing
 unfolding listing acknowledgement checksumDiffers rateUnknown isRate commandOf guardedIn guardedOf openOf lengthFits isOneOf replyBytes coreReply infoOf pick numberOf bytesOf checksumOf checksumFrom byteOn bitsOn bitOn
 listing-holds lastRate = refl
+
+-- T-02: "its core length is 4". The Detailed Error on the line, worked here: 004 prints the length 2 for its four core bytes.
+pub detailed-error-on-the-line : (beside : List ℕ)
+    → replyBytes FlashError beside
+    ≡ 0x00 ∷ 0x08 ∷ 0x04 ∷ 0x00 ∷ 0x3A ∷ 0xF0 ∷ 0x00 ∷ 0x00 ∷ 0xF6 ∷ 0x4B ∷ 0xE9 ∷ 0xF4 ∷ []
+unfolding replyBytes coreReply bytesOf checksumOf checksumFrom byteOn bitsOn bitOn
+detailed-error-on-the-line beside = refl

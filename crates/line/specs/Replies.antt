@@ -8,8 +8,8 @@ use Rattle.octets.specs.Choice.{pick}
 use Rattle.octets.specs.Number.{bytesOf}
 use Rattle.checksum.specs.Checksum.{checksumOf}
 use Rattle.line.specs.declared.Reply.{Reply}
-use Rattle.line.specs.declared.Reply.the-variants.{Silence, Acknowledged, Message, Info, Bytes, Sum}
-use Rattle.line.specs.Codes.{packetLimit, replyLimit, replyHeader, acknowledged, readBackReply, infoReply, verifyReply, messageReply}
+use Rattle.line.specs.declared.Reply.the-variants.{Silence, Acknowledged, Message, Info, Bytes, Sum, FlashError}
+use Rattle.line.specs.Codes.{packetLimit, replyLimit, replyHeader, acknowledged, readBackReply, infoReply, verifyReply, messageReply, detailedErrorReply, flashError, noDetail}
 
 -- "Core replies follow the 0x00, framed 08, length, core, checksum."
 unfoldable pub coreReply : List ℕ → List ℕ
@@ -25,7 +25,8 @@ infoOf version bcr bsl =
 abbrev pub readBackMost : ℕ
 readBackMost = 1720
 
--- "A message is 3B and one byte"; Info "31 and 24 bytes"; Read back "30 and the bytes", which stand beside the reply; Verify "32 and the checksum"
+-- "A message is 3B and one byte"; Info "31 and 24 bytes"; Read back "30 and the bytes", which stand beside the reply; Verify "32 and the checksum";
+-- T-02: "3A, F0, then two detail bytes, 0 in our model; its core length is 4"
 unfoldable pub replyBytes : Reply → List ℕ → List ℕ
 replyBytes Silence beside = []
 replyBytes (Acknowledged code) beside = code ∷ []
@@ -33,6 +34,7 @@ replyBytes (Message code) beside = coreReply (messageReply ∷ code ∷ [])
 replyBytes (Info version bcr bsl) beside = coreReply (infoReply ∷ infoOf version bcr bsl)
 replyBytes Bytes beside = coreReply (readBackReply ∷ beside)
 replyBytes (Sum sum) beside = coreReply (verifyReply ∷ bytesOf 4 sum)
+replyBytes FlashError beside = coreReply (detailedErrorReply ∷ flashError ∷ noDetail ∷ noDetail ∷ [])
 
 -- all that writing a reply leaves: how many bytes it has, and the area
 pub record Sent : Type 0 where

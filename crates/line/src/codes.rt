@@ -60,6 +60,8 @@ pub const INFO_REPLY: u8 = 0x31;
 
 pub const VERIFY_REPLY: u8 = 0x32;
 
+pub const DETAILED_ERROR_REPLY: u8 = 0x3A;
+
 pub const MESSAGE_REPLY: u8 = 0x3B;
 
 // Messages (004, 4.4.1).
@@ -86,3 +88,8 @@ pub const READOUT_OFF: u8 = 0x09;
 pub const NOT_ALIGNED: u8 = 0x0A;
 
 pub const TOO_SMALL: u8 = 0x0B;
+
+// What follows in a Detailed Error (004, 4.4.2): of flash, and two detail bytes.
+pub const FLASH_ERROR: u8 = 0xF0;
+
+pub const NO_DETAIL: u8 = 0x00;

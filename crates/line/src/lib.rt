@@ -64,7 +64,7 @@ pub enum Command {
     Unknown,
 }
 
-// What is sent back; the bytes of Read back stand beside it.
+// What is sent back; the bytes of Read back stand beside it. The last is the one Detailed Error there is.
 pub enum Reply {
     Silence,
     Acknowledged(u8),
@@ -76,4 +76,5 @@ pub enum Reply {
     },
     Bytes,
     Sum(u32),
+    FlashError,
 }

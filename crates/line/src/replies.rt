@@ -96,5 +96,10 @@ pub fn write_reply(reply: Reply, bytes: &[u8], area: &mut [u8]) -> usize
         } => write_core_reply(codes::INFO_REPLY, &info_of(version, bcr_id, bsl_id), area),
         Reply::Bytes => write_core_reply(codes::READ_BACK_REPLY, bytes, area),
         Reply::Sum(sum) => write_core_reply(codes::VERIFY_REPLY, &bytes_of(sum), area),
+        Reply::FlashError => write_core_reply(
+            codes::DETAILED_ERROR_REPLY,
+            &[codes::FLASH_ERROR, codes::NO_DETAIL, codes::NO_DETAIL],
+            area,
+        ),
     }
 }

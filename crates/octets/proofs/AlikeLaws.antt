@@ -1,7 +1,7 @@
 -- Bytes are compared one by one, to the end. What was seen so far, and what is left, is what is said of all.
 use mathlib.Core.Path.{_≡_, refl, ap, _∙_}
 use mathlib.Core.Bool.{Bool, true, false, false≢true}
-use mathlib.Core.List.{List, [], _∷_}
+use mathlib.Core.List.{List, [], _∷_, _++_}
 use mathlib.Core.Logic.{by-cases}
 use Prim.Native.Nat.{ℕ, zero, suc, _+_, _-_, _*_, _/_, _≤_, _<_, min}
 use native.Mathlib.Numerals.{add-one}
@@ -11,7 +11,7 @@ use native.Mathlib.Omega.{arith}
 use borrow.Author.Tests.{eq-eqb, ne-eqb, eqb-true, eqb-false}
 use lib.Dec.{eqb}
 use lib.Bits.{bitXor, xor-self, xor-lt, xor-add-and, and-le-l, and-le-r, bitAnd}
-use lib.ListN.{length, getD, set, drop, replicate, drop-of-length-le, length-drop}
+use lib.ListN.{length, getD, set, drop, replicate, getD-replicate, drop-of-length-le, length-drop}
 use lib.Seq.{drop-cons}
 use Rattle.octets.specs.Choice.{pick}
 use Rattle.octets.proofs.Searching.{pick-true, pick-false, pick-both, by-test}
@@ -46,6 +46,12 @@ module _ (value : ℕ) (bytes : List ℕ) (i : ℕ) where
   unfolding allAre
   all-passed h = rw drop-of-length-le
 
+-- all of two runs, one after the other
+pub all-join : (value : ℕ) (bytes more : List ℕ) → allAre value (bytes ++ more) ≡ pick (allAre value bytes) (allAre value more) false
+unfolding allAre pick
+all-join value [] more = refl
+all-join value (b ∷ bytes) more = by-test (eqb b value) (λ y. rw y (all-join value bytes more)) (λ n. rw n)
+
 -- the bytes of which all are one value
 pub all-are-replicate : (value : ℕ) (bytes : List ℕ) → allAre value bytes ≡ true → bytes ≡ replicate (length bytes) value
 unfolding allAre
@@ -53,6 +59,11 @@ all-are-replicate value [] h = refl
 all-are-replicate value (b ∷ bytes) h =
     let both = pick-both (eqb b value) (allAre value bytes) h in
     ap (λ (x : ℕ). x ∷ bytes) (eqb-true b value (both .0)) ∙ ap (λ (xs : List ℕ). value ∷ xs) (all-are-replicate value bytes (both .1))
+
+-- so each of them is that value
+pub each-is : (value : ℕ) (bytes : List ℕ) (k : ℕ) → allAre value bytes ≡ true → k < length bytes → getD bytes k 0 ≡ value
+each-is value bytes k h there =
+    ap (λ (all : List ℕ). getD all k 0) (all-are-replicate value bytes h) ∙ getD-replicate (length bytes) k value 0 there
 
 pub replicate-all-are : (value count : ℕ) → allAre value (replicate count value) ≡ true
 unfolding allAre

@@ -26,7 +26,7 @@ use Rattle.session_act.specs.declared.Planned.{Planned}
 use Rattle.session_act.specs.Orders.{carriedOut}
 use Rattle.session_act.specs.Plans.{planned}
 use Rattle.session_act.specs.Erasing.{rangeEraseIn, rangeErase, modeOff, modeWithPassword, lacksResetPassword, factoryReset}
-use Rattle.session_act.specs.Programming.{isOutside, isAligned, programAt}
+use Rattle.session_act.specs.Programming.{isOutside, isAligned, writtenIn, programAt}
 use Rattle.session_act.specs.Showing.{readoutOn, readBackAt}
 use Rattle.session_act.specs.Acting.{taskPlanned, planOf}
 
@@ -45,12 +45,14 @@ module _ (P : Planned → Type 0) (shows-none : (reply : Reply) (order : Order) 
       let place = placeOf part mainSize protection settingsBit start (end - start + 1) in
       by-pick P (ltb end start) _ _ (λ y. shows-none _ _) (λ n. erase-in start end (place .«is_protected») (place .region))
 
-  program : (word address size : ℕ) (place : Place) → P (programAt word address size place)
+  program : (part : Part) (protection : List ℕ) (settingsBit address size : ℕ) (memory : Memory) (place : Place)
+      → P (programAt part protection settingsBit address size memory place)
   unfolding programAt
-  program word address size place =
+  program part protection settingsBit address size memory place =
       by-pick P (isOutside (place .region)) _ _ (λ y. shows-none _ _)
-      (λ n. by-pick P (isAligned word address size) _ _
-      (λ y. by-pick P (place .«is_protected») _ _ (λ k. shows-none _ _) (λ o. shows-none _ _))
+      (λ n. by-pick P (isAligned (part .«word_size») address size) _ _
+      (λ y. by-pick P (place .«is_protected») _ _ (λ k. shows-none _ _)
+      (λ o. by-pick P (writtenIn part protection settingsBit (place .offset) size memory (place .region)) _ _ (λ w. shows-none _ _) (λ b. shows-none _ _)))
       (λ n. shows-none _ _))
 
   read-back : (readout size : ℕ) (place : Place) → P (readBackAt readout size place)
@@ -77,7 +79,8 @@ module _ (P : Planned → Type 0) (shows-none : (reply : Reply) (order : Order) 
     every-task : (task : Guarded) → P (taskPlanned part mainSize shown protection right memory task)
     every-task (guarded.RangeErase start end) = range-erase part mainSize protection (shown .«settings_protected») start end
     every-task guarded.MassErase = shows-none _ _
-    every-task (guarded.Program address size silent) = program (part .«word_size») address size (place address size)
+    every-task (guarded.Program address size silent) =
+        program part protection (shown .«settings_protected») address size memory (place address size)
     every-task (guarded.ReadBack address size) = read-back (shown .readout) size (place address size)
     every-task (guarded.Verify address size) = shows-none _ _
     every-task (guarded.FactoryReset with) = reset (shown .«reset_mode») with right

@@ -25,7 +25,7 @@ taskPlanned part mainSize shown protection right memory (guarded.RangeErase star
     rangeErase part mainSize protection (shown .«settings_protected») start end
 taskPlanned part mainSize shown protection right memory guarded.MassErase = massErase
 taskPlanned part mainSize shown protection right memory (guarded.Program address size silent) =
-    program part mainSize protection (shown .«settings_protected») address size
+    program part mainSize protection (shown .«settings_protected») address size memory
 taskPlanned part mainSize shown protection right memory (guarded.ReadBack address size) =
     readBack part (shown .readout) mainSize protection (shown .«settings_protected») address size
 taskPlanned part mainSize shown protection right memory (guarded.Verify address size) =

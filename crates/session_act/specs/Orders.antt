@@ -23,7 +23,7 @@ carriedOut part shown protection packet before EraseMain = memory (eraseAllOf (p
 -- "MAIN and settings become 0xFF"
 carriedOut part shown protection packet before EraseBoth =
     memory (eraseAllOf (part .«sector_size») protection (before .main)) (eraseAllOf (part .«sector_size») (settingsProtection shown) (before .settings))
--- "Each byte becomes old AND new"
+-- "Each byte becomes old AND new"; by T-02 the old ones are all 0xFF wherever that is ordered
 carriedOut part shown protection packet before (ProgramMain offset size) =
     memory (programOf (part .«sector_size») protection offset (dataIn size packet) (before .main)) (before .settings)
 carriedOut part shown protection packet before (ProgramSettings offset size) =

@@ -49,6 +49,8 @@ fn plan_task<'a>(
             shown.settings_protected,
             address,
             size,
+            main,
+            image,
         ),
         Guarded::ReadBack { address, size } => showing::read_back(
             part,

@@ -1,12 +1,18 @@
 // Program, and its silent twin: what they plan.
 ghost use mathlib.Core.Path.{_≡_};
+ghost use Rattle.octets.specs.Alike.{allAre};
+ghost use Rattle.flash.specs.Memory.{memory, bytesIn};
 ghost use Rattle.session_act.specs.Programming.{isAligned, programIn, program};
 use crate::Order;
 use crate::Planned;
 use crate::plans;
 use flash::Region;
+use line::Reply;
 use line::codes;
 use parts::Part;
+
+// What an erase leaves.
+const BLANK: u8 = 0xFF;
 
 fn is_aligned(word: u32, address: u32, size: u32) -> bool
     ensures { λ r. ⌜ r ≡ isAligned word address size ⌝ }
@@ -28,16 +34,26 @@ fn program_in(region: Region, offset: usize, size: u32) -> Order
     }
 }
 
-// Programs the region that holds the range wholly, where no place of it is protected.
-pub(crate) fn program(
+// Whether every byte of the range is 0xFF. Of a range of whole words that may change, this tells whether every word is blank.
+fn is_blank<'a>(region: Region, offset: usize, size: u32, main: &'a [u8], image: &'a [u8]) -> bool
+    ensures { λ r. ⌜ r ≡ allAre 0xFF (bytesIn offset size (memory (now (main .entry)) (now (image .entry))) region) ⌝ }
+{
+    let bytes = flash::bytes_in(region, offset, size as usize, main, image);
+    octets::all_are(BLANK, bytes)
+}
+
+// Programs the region that holds the range wholly, where no place of it is protected and no word is written.
+pub(crate) fn program<'a>(
     part: Part,
     main_size: u32,
     protection: &[u8],
     settings_protected: u8,
     address: u32,
     size: u32,
+    main: &'a [u8],
+    image: &'a [u8],
 ) -> Planned
-    ensures { λ r. ⌜ r ≡ program part «main_size» (now (protection .entry)) «settings_protected» address size ⌝ }
+    ensures { λ r. ⌜ r ≡ program part «main_size» (now (protection .entry)) «settings_protected» address size (memory (now (main .entry)) (now (image .entry))) ⌝ }
 {
     let place = flash::locate(
         part,
@@ -57,6 +73,9 @@ pub(crate) fn program(
     }
     if place.is_protected {
         return plans::tells(codes::INVALID_RANGE);
+    }
+    if !is_blank(region, offset, size, main, image) {
+        return plans::says(Reply::FlashError);
     }
     plans::orders(codes::SUCCESS, program_in(region, offset, size))
 }

@@ -24,6 +24,7 @@ fn without_core(reply: Reply) -> Reply
         } => Reply::Acknowledged(codes::ACKNOWLEDGED),
         Reply::Bytes => Reply::Acknowledged(codes::ACKNOWLEDGED),
         Reply::Sum(_) => Reply::Acknowledged(codes::ACKNOWLEDGED),
+        Reply::FlashError => Reply::Acknowledged(codes::ACKNOWLEDGED),
     }
 }
 

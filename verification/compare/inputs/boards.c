@@ -161,7 +161,8 @@ struct step choose_settings(struct dice *dice, uint32_t main_size)
 
 struct step choose_main(struct dice *dice, uint32_t main_size)
 {
-    return (struct step){.kind = SET_MAIN, .number = below(dice, 4), .fill = roll(dice), .main_size = main_size};
+    static const uint32_t patterns[] = {0, 0, 1, 2, 3, 3, 4, 4}; /* Program wants blank places */
+    return (struct step){.kind = SET_MAIN, .number = ONE_OF(dice, patterns), .fill = roll(dice), .main_size = main_size};
 }
 
 /* ---- Records ---- */

@@ -15,14 +15,14 @@ static const struct {
 };
 
 static const char *const outcome_names[OUTCOMES] = {"00", "01", "02", "03", "04",   "05",   "06", "07",
-                                                    "08", "09", "0A", "0B", "data", "done", "not"};
+                                                    "08", "09", "0A", "0B", "data", "F0",   "done", "not"};
 
 static const char *const edge_names[EDGES] = {"from 0",     "to end", "over end", "at end", "over start",
                                               "from first", "to end", "over end", "at end", "past 2^32"};
 
-/* The outcomes that document 01 gives each command, in the order of command_codes; the last: unknown codes. */
+/* The outcomes that document 01, with the requests of 02 that are built, gives each command, in the order of command_codes; the last: unknown codes. */
 static const char *const possible[COMMANDS + 1] = {
-    "done not",         "data 06",          "00 02 03 06",    "00 01 05 06", "00 01 06", "00 01 05 06 0A", "done not",
+    "done not",         "data 06",          "00 02 03 06",    "00 01 05 06", "00 01 06", "00 01 05 06 0A F0", "done not",
     "data 01 05 06 09", "data 01 05 06 0B", "00 01 06 07 08", "done not",    "done not", "04"};
 
 static int row_of(uint8_t command)

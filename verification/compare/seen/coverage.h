@@ -56,6 +56,7 @@
     P(WAIT_WRAP, "", "idle past 2^32") P(WAIT_LARGEST, "", "2^32-1") \
     P(IDLE_KEPT, "idle above 0", "kept by a packet without 00") P(IDLE_UNKNOWN, "", "kept by an unknown code") \
     P(IDLE_CLEARED, "", "cleared by a refused command") P(IDLE_CLEARED_SILENT, "", "cleared by a silent refusal") \
+    P(IDLE_CLEARED_WRITTEN, "", "cleared by the Detailed Error") \
     P(ALERT_0_THIRD, "alert, third wrong one", "nothing") P(ALERT_1_THIRD, "", "reset") \
     P(ALERT_2_THIRD, "", "disable") \
     P(ALERT_0_LATER, "alert, later wrong one", "nothing") P(ALERT_1_LATER, "", "reset") \
@@ -84,7 +85,19 @@
     P(FACTORY_OPEN, "Factory reset", "mode 1, L 1") P(FACTORY_OPEN_17, "", "mode 1, L 17") \
     P(FACTORY_RIGHT, "", "mode 2, right") P(FACTORY_WRONG, "", "mode 2, wrong") P(FACTORY_NONE, "", "mode 2, none") \
     P(FAST_LOCKED, "Program fast refused", "locked") P(FAST_LENGTH, "", "L") P(FAST_RANGE, "", "range") \
-    P(FAST_ALIGNMENT, "", "alignment") P(FAST_PROTECTED, "", "protected") \
+    P(FAST_ALIGNMENT, "", "alignment") P(FAST_PROTECTED, "", "protected") P(FAST_WRITTEN, "", "not blank") \
+    P(WRITTEN_FIRST, "Program, not blank", "the first word alone") P(WRITTEN_LAST, "", "the last alone") \
+    P(WRITTEN_BETWEEN, "", "one between alone") P(WRITTEN_ONES, "", "data of 0xFF") \
+    P(WRITTEN_SETTINGS, "", "settings") P(WRITTEN_PROTECTED, "", "protected before it") \
+    P(WRITTEN_UNALIGNED, "", "0A before it") \
+    P(FAST_WRITTEN_FIRST, "Program fast, not blank", "the first word alone") P(FAST_WRITTEN_LAST, "", "the last alone") \
+    P(FAST_WRITTEN_BETWEEN, "", "one between alone") P(FAST_WRITTEN_ONES, "", "data of 0xFF") \
+    P(FAST_WRITTEN_SETTINGS, "", "settings") P(FAST_WRITTEN_PROTECTED, "", "protected before it") \
+    P(FAST_WRITTEN_UNALIGNED, "", "0A before it") \
+    P(BLANK_MAIN, "blank, and done", "Program in MAIN") P(BLANK_SETTINGS, "", "Program in the settings") \
+    P(BLANK_BESIDE, "", "Program beside a word that is not blank") \
+    P(BLANK_MAIN_FAST, "", "Program fast in MAIN") P(BLANK_SETTINGS_FAST, "", "Program fast in the settings") \
+    P(BLANK_BESIDE_FAST, "", "Program fast beside such a word") \
     P(ALIGNMENT_ADDRESS, "alignment", "address only") P(ALIGNMENT_COUNT, "", "data size only") \
     P(RANGE_AND_ALIGNMENT, "", "range before alignment") \
     P(ERASE_WHOLE, "Range erase", "0 to the last byte") P(ERASE_LAST, "", "end the last byte") \
@@ -112,8 +125,8 @@ enum coverage_point {
 
 void seen(int point);
 
-/* What became of an acknowledged command: a message 00 to 0B, other data, or no core reply. */
-enum outcome { OUTCOME_DATA = 12, OUTCOME_DONE, OUTCOME_REFUSED, OUTCOMES };
+/* What became of an acknowledged command: a message 00 to 0B, other data, the Detailed Error, or no core reply. */
+enum outcome { OUTCOME_DATA = 12, OUTCOME_FLASH_ERROR, OUTCOME_DONE, OUTCOME_REFUSED, OUTCOMES };
 void seen_outcome(uint8_t command, int outcome);
 
 /* Where a range lay that an unlocked Program, Program fast, Read back or Verify gave. */

@@ -8,6 +8,7 @@
 /* What an observer looks at. */
 struct sight {
     const struct step *step;
+    const struct finding *found;
     const uint8_t *before, *record, *reply, *main_flash, *settings, *fields;
     uint64_t answer;
     uint32_t main_size;
@@ -289,15 +290,15 @@ static enum protection protection_of(const struct sight *sight, uint32_t first, 
     return sector_protected(sight, start) ? FIRST_SECTOR : LATER_SECTOR;
 }
 
-/* Whether it would show if a refused Program were done: in an open sector, where the range has one. */
+/* Whether it would show if a refused Program were done, of blank places: in an open sector, where the range has one. */
 static bool program_would_show(const struct sight *sight, enum protection protection, uint32_t first, uint32_t count)
 {
     bool partly = protection == FIRST_SECTOR || protection == LATER_SECTOR, in_main = protection != THE_SETTINGS;
     const uint8_t *flash = in_main ? sight->main_flash + first : sight->settings + (first - SETTINGS_START);
     const uint8_t *data = sight->core + 5;
     for (uint32_t i = 0; i < count; i++)
-        if ((flash[i] & data[i]) != flash[i] && !(partly && sector_protected(sight, (first + i) / SECTOR)))
-            return true;
+        if (data[i] != 0xFF && !(partly && sector_protected(sight, (first + i) / SECTOR)))
+            return all_ff(flash, count);
     return false;
 }
 
@@ -334,16 +335,45 @@ static void observe_beside(const struct sight *sight, uint32_t first, uint32_t l
 
 /* ---- Program and Range erase ---- */
 
+/* A Program that finds a word that is not blank, and no protected place. */
+static void observe_written(const struct sight *sight, uint32_t first, uint32_t count)
+{
+    const struct finding *found = sight->found;
+    int point = sight->core[0] == 0x24 ? FAST_WRITTEN_FIRST : WRITTEN_FIRST;
+    if (found->written == 1 && found->words > 1)
+        seen(found->first_written  ? point
+             : found->last_written ? point + WRITTEN_LAST - WRITTEN_FIRST
+                                   : point + WRITTEN_BETWEEN - WRITTEN_FIRST);
+    seen_if(all_ff(sight->core + 5, count), point + WRITTEN_ONES - WRITTEN_FIRST);
+    seen_if(first >= SETTINGS_START, point + WRITTEN_SETTINGS - WRITTEN_FIRST);
+}
+
+/* A Program that is done, of data that are not all 0xFF. */
+static void observe_blank(const struct sight *sight, uint32_t first)
+{
+    int point = sight->core[0] == 0x24 ? BLANK_MAIN_FAST : BLANK_MAIN;
+    seen(first < sight->main_size ? point : point + BLANK_SETTINGS - BLANK_MAIN);
+    seen_if(sight->found->beside_written, point + BLANK_BESIDE - BLANK_MAIN);
+}
+
 /* A Program that lies in one region and is aligned. */
 static void observe_whole_program(const struct sight *sight, int outcome, uint32_t first, uint32_t count)
 {
-    bool fast = sight->core[0] == 0x24;
+    bool fast = sight->core[0] == 0x24, written = sight->found->written > 0;
+    int not_blank = fast ? OUTCOME_REFUSED : OUTCOME_FLASH_ERROR, done = fast ? OUTCOME_DONE : 0x00;
     enum protection protection = protection_of(sight, first, first + count - 1);
-    if (protection != NOTHING)
+    if (protection != NOTHING) {
         seen_if(outcome == (fast ? OUTCOME_REFUSED : 0x05) && program_would_show(sight, protection, first, count),
                 (fast ? FAST_ALL : PROGRAM_ALL) + (int)protection);
-    else if (outcome == 0x00 && first < sight->main_size)
-        observe_beside(sight, first, first + count - 1, BESIDE_PROGRAM_AFTER);
+        seen_if(written, fast ? FAST_WRITTEN_PROTECTED : WRITTEN_PROTECTED);
+    } else if (outcome == not_blank && written) {
+        observe_written(sight, first, count);
+    } else if (outcome == done) {
+        if (!all_ff(sight->core + 5, count))
+            observe_blank(sight, first);
+        if (first < sight->main_size && !fast)
+            observe_beside(sight, first, first + count - 1, BESIDE_PROGRAM_AFTER);
+    }
 }
 
 static void observe_program(const struct sight *sight, int outcome)
@@ -359,6 +389,8 @@ static void observe_program(const struct sight *sight, int outcome)
                 sight->core[0] == 0x24 ? OUTSIDE_FAST : OUTSIDE_PROGRAM);
         return;
     }
+    seen_if(!aligned && sight->found->bytes_written,
+            sight->core[0] == 0x24 ? FAST_WRITTEN_UNALIGNED : WRITTEN_UNALIGNED);
     if (aligned)
         observe_whole_program(sight, outcome, first, count);
     else if (outcome == 0x0A && protection_of(sight, first, first + count - 1) != NOTHING)
@@ -477,7 +509,9 @@ static int judge_fast(const struct sight *sight)
         return FAST_RANGE;
     if (first % 8 != 0 || count % 8 != 0)
         return FAST_ALIGNMENT;
-    return protection_of(sight, first, first + count - 1) != NOTHING ? FAST_PROTECTED : -1;
+    if (protection_of(sight, first, first + count - 1) != NOTHING)
+        return FAST_PROTECTED;
+    return sight->found->written > 0 ? FAST_WRITTEN : -1;
 }
 
 /* What became of a command that gets no core reply. */
@@ -518,6 +552,7 @@ static void observe_idle(const struct sight *sight, int outcome)
         return;
     seen_if(outcome == 0x04, IDLE_UNKNOWN);
     seen_if(outcome > 0x00 && outcome <= 0x0B && outcome != 0x04, IDLE_CLEARED);
+    seen_if(outcome == OUTCOME_FLASH_ERROR, IDLE_CLEARED_WRITTEN);
     seen_if(outcome == OUTCOME_REFUSED, IDLE_CLEARED_SILENT);
 }
 
@@ -543,6 +578,13 @@ static void observe_command(const struct sight *sight, int outcome)
         observe_verify(sight, outcome);
 }
 
+static int core_outcome(const uint8_t *core)
+{
+    if (core[0] == 0x3B)
+        return core[1] % OUTCOME_DATA;
+    return core[0] == 0x3A ? OUTCOME_FLASH_ERROR : OUTCOME_DATA;
+}
+
 static void observe_acknowledged(struct sight *sight, uint32_t reply_length)
 {
     int outcome;
@@ -554,7 +596,7 @@ static void observe_acknowledged(struct sight *sight, uint32_t reply_length)
     if (reply_length == 1)
         outcome = silent_outcome(sight);
     else
-        outcome = sight->reply[4] == 0x3B ? sight->reply[5] % OUTCOME_DATA : OUTCOME_DATA;
+        outcome = core_outcome(sight->reply + 4);
     if (outcome < OUTCOME_DATA)
         seen(MESSAGE_00 + outcome);
     seen_outcome(sight->core[0], outcome);
@@ -585,9 +627,11 @@ static void observe_session(struct sight *sight)
         observe_refused_packet(sight);
 }
 
-void observe(const struct step *step, const uint8_t *before, const struct side *after)
+void observe(const struct step *step, const struct finding *found, const struct side *after)
 {
+    const uint8_t *before = found->record;
     struct sight sight = {.step = step,
+                          .found = found,
                           .before = before,
                           .record = after->area[AREA_RECORD],
                           .reply = after->area[AREA_REPLY],

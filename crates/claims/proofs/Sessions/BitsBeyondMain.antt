@@ -3,26 +3,29 @@ use mathlib.Core.Path.{_≡_, refl, sym, ap, ap₂, _∙_}
 use mathlib.Core.Bool.{Bool, not}
 use mathlib.Core.List.{List}
 use Prim.Native.Nat.{ℕ, _+_, _-_, _*_, _/_, _<_}
+use native.Mathlib.Nat.{div-mul-le-self}
 use native.Mathlib.Omega.{arith}
 use borrow.Author.Tests.{not-false}
 use lib.Dec.{ltb}
 use lib.ListN.{length}
 use Rattle.octets.specs.Choice.{pick}
-use Rattle.octets.proofs.Searching.{pick-true, pick-false, by-test}
+use Rattle.octets.proofs.Searching.{pick-true, pick-false, by-test, by-pick}
 use Rattle.parts.specs.declared.Part.{Part}
 use Rattle.line.specs.Codes as codes
 use Rattle.line.specs.Codes.{replyLimit}
+use Rattle.line.specs.declared.Reply.the-variants.{FlashError}
 use Rattle.line.specs.declared.Guarded.{Guarded}
 use Rattle.line.specs.declared.Guarded.the-variants as guarded
 use Rattle.line.specs.Packet.{dataIn}
 use Rattle.settings.specs.declared.Shown.{Shown}
 use Rattle.flash.specs.Memory.{Memory, memory}
 use Rattle.flash.specs.declared.Place.{Place}
-use Rattle.flash.specs.Regions.{placeOf}
+use Rattle.flash.specs.Regions.{mainStart, liesWithin, placeOf}
 use Rattle.flash.specs.Protection.{isProtected}
 use Rattle.flash.specs.Erasing.{eraseOf, eraseAllOf}
 use Rattle.flash.proofs.ProtectionLaws.{bits-beyond-have-no-effect}
-use Rattle.flash.proofs.RegionLaws.{places-alike}
+use Rattle.flash.proofs.RegionLaws.{within-bounds, places-alike}
+use Rattle.flash.proofs.WordLaws.{words-alike}
 use Rattle.flash.specs.Programming.{programOf}
 use Rattle.session_judge.specs.declared.Effect.{Effect}
 use Rattle.session_judge.specs.declared.Effect.the-variants.{Say, TellInfo, Strike, Perform}
@@ -32,9 +35,9 @@ use Rattle.session_act.specs.declared.Order.the-variants.{Keep, EraseBetween, E
 use Rattle.session_act.specs.declared.Planned.{Planned}
 use Rattle.session_act.specs.Board.{acted, board, settingsProtection}
 use Rattle.session_act.specs.Orders.{carriedOut}
-use Rattle.session_act.specs.Plans.{says, tells}
+use Rattle.session_act.specs.Plans.{says, tells, orders}
 use Rattle.session_act.specs.Erasing.{rangeEraseAt, rangeErase}
-use Rattle.session_act.specs.Programming.{programAt}
+use Rattle.session_act.specs.Programming.{isOutside, isAligned, writtenIn, programIn, programAt, program}
 use Rattle.session_act.specs.Showing.{readBackAt, verifyAt}
 use Rattle.session_act.specs.Acting.{taskPlanned, planOf, actOf}
 use Rattle.session.specs.declared.Session.{Session}
@@ -80,12 +83,43 @@ module _ (part : Part) where
     place-same first count =
         places-alike part mainSize bits others (shown .«settings_protected») first count (λ sector h. agree sector (omega (arith, h, whole)))
 
+    -- so many bytes at a place have the same words that are written
+    abbrev WordsAlike : ℕ → Place → Type 0
+    WordsAlike size place =
+        writtenIn part bits (shown .«settings_protected») (place .offset) size before (place .region)
+        ≡ writtenIn part others (shown .«settings_protected») (place .offset) size before (place .region)
+
+    -- those of a range in MAIN are in its sectors
+    words-same : (address size : ℕ) → WordsAlike size (placeOf part mainSize others (shown .«settings_protected») address size)
+    unfolding placeOf
+    words-same address size =
+        by-pick (WordsAlike size) (liesWithin mainStart mainSize address size) _ _
+        (λ y.
+        let b = within-bounds mainStart mainSize address size y in
+        words-alike (part .«sector_size») bits others (part .«word_size») (address - mainStart) size (before .main)
+        (λ place h. agree (place / part .«sector_size») (omega (arith, div-mul-le-self place (part .«sector_size»), h, b, whole))))
+        (λ n. by-pick (WordsAlike size) (liesWithin (part .«settings_start») (part .«settings_size») address size) _ _ (λ y. refl) (λ o. refl))
+
+    program-same : (address size : ℕ) → program part mainSize bits (shown .«settings_protected») address size before
+        ≡ program part mainSize others (shown .«settings_protected») address size before
+    unfolding programAt
+    program-same address size =
+        let place = placeOf part mainSize others (shown .«settings_protected») address size in
+        ap (programAt part bits (shown .«settings_protected») address size before) (place-same address size)
+        ∙ ap (λ (written : Bool).
+        pick (isOutside (place .region)) (tells codes.invalidRange)
+        (pick (isAligned (part .«word_size») address size)
+        (pick (place .«is_protected») (tells codes.invalidRange)
+        (pick written (says FlashError) (orders codes.success (programIn (place .offset) size (place .region)))))
+        (tells codes.notAligned)))
+        (words-same address size)
+
     task-same : (right : Bool) (task : Guarded) → taskPlanned part mainSize shown bits right before task ≡ taskPlanned part mainSize shown others right before task
     unfolding rangeErase
     task-same right (guarded.RangeErase start end) =
         ap (λ (place : Place). pick (ltb end start) (tells codes.invalidRange) (rangeEraseAt start end place)) (place-same start (end - start + 1))
     task-same right guarded.MassErase = refl
-    task-same right (guarded.Program address size silent) = ap (programAt (part .«word_size») address size) (place-same address size)
+    task-same right (guarded.Program address size silent) = program-same address size
     task-same right (guarded.ReadBack address size) = ap (readBackAt (shown .readout) size) (place-same address size)
     task-same right (guarded.Verify address size) = ap (λ (place : Place). says (verifyAt part size before place)) (place-same address size)
     task-same right (guarded.FactoryReset with) = refl

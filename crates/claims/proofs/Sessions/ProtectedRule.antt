@@ -1,4 +1,4 @@
--- T-04: "must refuse when any place they would touch is protected", and where none is, they do not.
+-- T-04: "must refuse when any place they would touch is protected", and where none is, Range erase does not; of Program see WrittenRule.
 use mathlib.Core.Path.{_≡_, refl, sym, ap, ap₂, _∙_}
 use mathlib.Core.Bool.{Bool, true, false, not, true≢false}
 use mathlib.Core.List.{List}
@@ -12,13 +12,13 @@ use Rattle.octets.specs.Choice.{pick}
 use Rattle.octets.proofs.Searching.{pick-true, pick-false}
 use Rattle.line.specs.Codes as codes
 use Rattle.parts.specs.declared.Part.{Part}
-use Rattle.flash.specs.declared.Place.{Place}
+use Rattle.flash.specs.Memory.{Memory}
 use Rattle.flash.specs.declared.Region.the-variants.{Main}
 use Rattle.flash.specs.Protection.{isProtected, mayChange, firstKept}
 use Rattle.flash.specs.Regions.{mainStart, placeFrom, placeIn, placeOf}
-use Rattle.flash.proofs.KeptLaws.{found-is-kept, none-is-kept, protected-range-touches, open-range-touches-none}
+use Rattle.flash.proofs.KeptLaws.{none-is-kept, protected-range-touches, open-range-touches-none}
 use Rattle.flash.proofs.RegionLaws.{main-is-located}
-use Rattle.session_act.specs.declared.Order.the-variants.{EraseBetween, ProgramMain}
+use Rattle.session_act.specs.declared.Order.the-variants.{EraseBetween}
 use Rattle.session_act.specs.declared.Planned.{Planned}
 use Rattle.session_act.specs.Plans.{tells, orders}
 use Rattle.session_act.specs.Erasing.{rangeEraseAt, rangeErase}
@@ -67,27 +67,13 @@ module _ (part : Part) (mainSize : ℕ) (protection : List ℕ) (settingsBit : �
 
   -- ---- Program and its silent twin, of a range of whole words in MAIN
 
-  module _ (address size : ℕ) (aligned : isAligned (part .«word_size») address size ≡ true) (there : address + size ≤ mainSize) where
-    program-at : (protected : Bool) → ltb (firstKept sectorSize protection address (address + size)) (address + size) ≡ protected
-        → program part mainSize protection settingsBit address size ≡ pick protected (tells codes.invalidRange) (orders codes.success (ProgramMain address size))
-    unfolding programAt
-    program-at protected e =
-        ap (programAt (part .«word_size») address size) (place-in-main address size (address + size) refl there)
-        ∙ pick-false _ _ refl ∙ pick-true _ _ aligned
-        ∙ ap (λ (bit : Bool). pick bit (tells codes.invalidRange) (orders codes.success (ProgramMain address size))) e
-
+  module _ (address size : ℕ) (memory : Memory) (aligned : isAligned (part .«word_size») address size ≡ true) (there : address + size ≤ mainSize) where
     pub protected-program-is-refused : (place : ℕ) → address ≤ place → place < address + size → mayChange sectorSize protection place ≡ false
-        → program part mainSize protection settingsBit address size ≡ tells codes.invalidRange
+        → program part mainSize protection settingsBit address size memory ≡ tells codes.invalidRange
+    unfolding programAt
     protected-program-is-refused place l u kept =
         by-cases (decLt (firstKept sectorSize protection address (address + size)) (address + size))
-        (λ h. program-at true (lt-ltb _ _ h) ∙ pick-true _ _ refl)
-        (λ n. absurd (true≢false (sym (none-is-kept sectorSize protection address (address + size) (omega arith) place l u) ∙ kept)))
-
-    pub open-program-is-obeyed : ((place : ℕ) → address ≤ place → place < address + size → mayChange sectorSize protection place ≡ true)
-        → program part mainSize protection settingsBit address size ≡ orders codes.success (ProgramMain address size)
-    open-program-is-obeyed opened =
-        by-cases (decLt (firstKept sectorSize protection address (address + size)) (address + size))
         (λ h.
-        let found = found-is-kept sectorSize protection address (address + size) h in
-        absurd (true≢false (sym (found .1) ∙ ap not (opened _ (found .0) h))))
-        (λ n. program-at false (le-ltb (firstKept sectorSize protection address (address + size)) (address + size) (omega arith)) ∙ pick-false _ _ refl)
+        ap (programAt part protection settingsBit address size memory) (place-in-main address size (address + size) refl there)
+        ∙ pick-false _ _ refl ∙ pick-true _ _ aligned ∙ pick-true _ _ (lt-ltb _ _ h))
+        (λ n. absurd (true≢false (sym (none-is-kept sectorSize protection address (address + size) (omega arith) place l u) ∙ kept)))

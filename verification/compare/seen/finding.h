@@ -1,0 +1,18 @@
+#ifndef FINDING_H
+#define FINDING_H
+
+#include "script.h"
+#include "sides.h"
+
+/* What a call finds, looked at before it is made. */
+struct finding {
+    uint8_t record[RECORD_ROOM];
+    /* of a Program, also a fast one, whose range lies in one region; else all are 0: */
+    uint32_t words, written; /* how many words there are, and how many of them are not blank */
+    bool bytes_written;      /* a byte of the range is not 0xFF, also where it is no whole words */
+    bool first_written, last_written, beside_written;
+};
+
+struct finding look(const struct step *step, const struct side *side);
+
+#endif
