@@ -8,8 +8,8 @@
 #include <stddef.h>
 #include <stdint.h>
 
-#define BHORELMU_VERSION "1.2.0"
-#define BHORELMU_VERSION_NUMBER 10200 /* 10,000 for each major version, 100 for each minor, 1 for each patch */
+#define BHORELMU_VERSION "2.0.0"
+#define BHORELMU_VERSION_NUMBER 20000 /* 10,000 for each major version, 100 for each minor, 1 for each patch */
 
 /*
  * The device side of one boot loader session, on numbers and byte areas. docs/RECORD.md tells the same at length, and
@@ -33,7 +33,7 @@
  *    reply area, the packet's area and the stack below its own: after a call both passwords stand in the record, bytes
  *    that were read back may stand in the reply area, a password that was sent in the packet's, and copies of the record
  *    in the dead stack. No function here clears any of them;
- *  - one record is one session: who starts again gets a new count of wrong passwords.
+ *  - one record is one session: who starts again gets a new count and a new total of wrong passwords.
  */
 
 #ifdef __cplusplus
@@ -43,7 +43,7 @@ extern "C" {
 #define BHORELMU_SETTINGS_SIZE 1024u
 #define BHORELMU_PACKET_LARGEST 1728u /* a longer one is not refused: in the command phase an error answers it */
 #define BHORELMU_REPLY_SIZE 1729u /* a reply area has at least so many bytes */
-#define BHORELMU_RECORD_SIZE 90u
+#define BHORELMU_RECORD_SIZE 94u
 #define BHORELMU_FIELDS_SIZE 74u
 
 /* Where the parts of a record stand. */
@@ -53,8 +53,9 @@ extern "C" {
 #define BHORELMU_RECORD_RATE_ID 3u
 #define BHORELMU_RECORD_SLEEP 4u      /* 4 bytes, milliseconds */
 #define BHORELMU_RECORD_IDLE 8u       /* 4 bytes, milliseconds */
-#define BHORELMU_RECORD_MAIN_SIZE 12u /* 4 bytes */
-#define BHORELMU_RECORD_FIELDS 16u    /* 74 bytes: the settings as they were at start */
+#define BHORELMU_RECORD_TRIES 12u     /* 4 bytes: how many wrong passwords in all, at most 65,535 */
+#define BHORELMU_RECORD_MAIN_SIZE 16u /* 4 bytes */
+#define BHORELMU_RECORD_FIELDS 20u    /* 74 bytes: the settings as they were at start */
 
 /* Where the fields stand in an area of fields; in a record they follow BHORELMU_RECORD_FIELDS. */
 #define BHORELMU_FIELD_PASSWORD 0u        /* 32 bytes */
@@ -112,7 +113,7 @@ uint64_t bhorelmu_start(uint32_t fuse, const uint8_t *main_flash, size_t main_si
  * Lets `wait` milliseconds pass since the call before, or since start, then takes one packet, perhaps empty, and updates
  * the record and both flash areas. Refusals 9, then 10 for an area that is no record's, for a MAIN of another size than
  * the record says, and for settings that are not 1,024 bytes. Bytes past the reply stay as lent.
- * Stack: 528 bytes on x86-64, 616 on thumbv6m.
+ * Stack: 528 bytes on x86-64, 640 on thumbv6m.
  */
 uint64_t bhorelmu_call(uint8_t *record, size_t record_size, uint8_t *main_flash, size_t main_size, uint8_t *settings,
                        size_t settings_size, uint32_t wait, const uint8_t *packet, size_t packet_size, uint8_t *reply,

@@ -1,8 +1,9 @@
-/* Checks of the C boundary: each refusal and their order, each byte of a record, sizes one off, what stays untouched, and
-   protected places. */
+/* Checks of the C boundary: each refusal and their order, each byte of a record, sizes one off, what stays untouched,
+   protected places, and the total of wrong passwords. */
 
 #include "bhorelmu.h"
 
+#include <stdbool.h>
 #include <stdio.h>
 #include <string.h>
 
@@ -183,6 +184,7 @@ static void check_record_bytes(void)
     static const uint8_t nothing[1];
     struct areas started = started_board();
     unsigned taken = 0;
+    started.record[BHORELMU_RECORD_TRIES] = 3; /* so that each wrong count goes with it */
     for (size_t place = 0; place < BHORELMU_RECORD_SIZE; place++) {
         for (unsigned value = 0; value < 256; value++) {
             struct areas areas = started;
@@ -194,16 +196,16 @@ static void check_record_bytes(void)
             taken += answer == 0;
         }
     }
-    /* By the layout: phase 5 values, lock 1, wrong count 4, rate id 9, sleep's bytes 1 each, idle's 256, 40, 1 and 1, those of the
-       size of MAIN 1 each; in the fields any value, but reset mode 3, alert 3, settings protected 2, the zero byte 1. */
-    unsigned wanted = 5 + 1 + 4 + 9 + 4 + (256 + 40 + 1 + 1) + 4 + 48 * 256 + 3 + 3 + 2 * 256 + 2 + 1 + 20 * 256;
+    /* By the layout: phase 5 values, lock 1, wrong count 4, rate id 9, sleep's bytes 1 each, idle's 256, 40, 1 and 1, the total's
+       256, 256, 1 and 1, those of the size of MAIN 1 each; in the fields any value, but reset mode 3, alert 3, settings protected 2, the zero byte 1. */
+    unsigned wanted = 5 + 1 + 4 + 9 + 4 + (256 + 40 + 1 + 1) + (256 + 256 + 1 + 1) + 4 + 48 * 256 + 3 + 3 + 2 * 256 + 2 + 1 + 20 * 256;
     check("how many are taken", wanted, taken);
 }
 
 static void check_layout(void)
 {
     struct areas areas = started_board();
-    static const uint8_t front[16] = {0, 0, 0, 2, 0, 0, 0, 0, 0, 0, 0, 0, 0x00, 0x10, 0, 0};
+    static const uint8_t front[20] = {0, 0, 0, 2, 0, 0, 0, 0, 0, 0, 0, 0, 0, 0, 0, 0, 0x00, 0x10, 0, 0};
     check("the record at start", 0, (unsigned)memcmp(front, areas.record, sizeof front) != 0);
     check("Connect", 1, call(&areas, right_sizes, connect_packet, sizeof connect_packet));
     check("command phase", BHORELMU_COMMAND, areas.record[BHORELMU_RECORD_PHASE]);
@@ -392,6 +394,78 @@ static void check_written_words(void)
     check_second_write(&areas, "the last word is written", 0x20, 0x00);
 }
 
+static uint32_t total_of(const struct areas *areas)
+{
+    const uint8_t *at = areas->record + BHORELMU_RECORD_TRIES;
+    return at[0] | (uint32_t)at[1] << 8 | (uint32_t)at[2] << 16 | (uint32_t)at[3] << 24;
+}
+
+static void set_total(struct areas *areas, uint32_t total)
+{
+    for (unsigned i = 0; i < 4; i++)
+        areas->record[BHORELMU_RECORD_TRIES + i] = (uint8_t)(total >> 8 * i);
+}
+
+/* A record with such a wrong count and such a total: taken, or refused with 10. */
+static void check_total(uint8_t wrong_count, uint32_t total, bool is_taken)
+{
+    struct areas areas = started_board();
+    areas.record[BHORELMU_RECORD_WRONG_COUNT] = wrong_count;
+    set_total(&areas, total);
+    if (!is_taken) {
+        refused("a total that does not go with the count", BHORELMU_RECORD_NOT_VALID, &areas, right_sizes);
+        return;
+    }
+    check("a total that goes with the count", 1, call(&areas, right_sizes, connect_packet, sizeof connect_packet));
+    check("Connect keeps it", total, total_of(&areas));
+}
+
+/* Each side of both clauses. */
+static void check_totals(void)
+{
+    for (uint8_t wrong_count = 0; wrong_count <= 3; wrong_count++) {
+        check_total(wrong_count, wrong_count, true);
+        check_total(wrong_count, 65535, true);
+        check_total(wrong_count, 65536, false);
+        check_total(wrong_count, 0xFFFFFFFFu, false);
+        if (wrong_count > 0)
+            check_total(wrong_count, wrong_count - 1u, false);
+    }
+}
+
+/* Sends an Unlock with 32 times this byte, once the session is awake. What is told, as above. */
+static unsigned tried(struct areas *areas, uint8_t byte)
+{
+    uint8_t core[33] = {0x21};
+    memset(core + 1, byte, 32);
+    memset(areas->record + BHORELMU_RECORD_SLEEP, 0, 4);
+    return told(areas, core, sizeof core);
+}
+
+/* Wrong passwords add one each, up to 65,535; a right one leaves the total. */
+static void check_tries(void)
+{
+    static const unsigned messages[] = {0x02, 0x02, 0x03, 0x03, 0x03};
+    struct areas areas = started_board();
+    call(&areas, right_sizes, connect_packet, sizeof connect_packet);
+    for (unsigned i = 0; i < sizeof messages / sizeof *messages; i++) {
+        check("a wrong password", messages[i], tried(&areas, 0x00));
+        check("one more", i + 1, total_of(&areas));
+    }
+    check("a right password", 0x00, tried(&areas, 0xFF));
+    check("the count is cleared", 0, areas.record[BHORELMU_RECORD_WRONG_COUNT]);
+    check("the total is not", 5, total_of(&areas));
+    check("a wrong one while unlocked", 0x02, tried(&areas, 0x00));
+    check("counts too", 6, total_of(&areas));
+    set_total(&areas, 65534);
+    for (unsigned i = 0; i < 3; i++) {
+        tried(&areas, 0x00);
+        check("the total stops", 65535, total_of(&areas));
+    }
+    check("start gives", 0, start(&areas, 0, MAIN_SIZE, 1024, BHORELMU_RECORD_SIZE));
+    check("a total of 0", 0, total_of(&areas));
+}
+
 static void check_rates(void)
 {
     static const uint32_t rates[] = {0, 4800, 9600, 19200, 38400, 57600, 115200, 1000000, 2000000, 3000000, 0};
@@ -413,6 +487,8 @@ int main(void)
     check_refused_places();
     check_skipped_places();
     check_written_words();
+    check_totals();
+    check_tries();
     check_rates();
     printf("%u checks, %u failed\n", checks, failures);
     return failures != 0;

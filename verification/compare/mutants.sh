@@ -106,6 +106,20 @@ wrong password keeps the rate@s/    loader->rate_id = RATE_AT_START;//
 wrong password keeps it unlocked@/^static enum message wrong_password/,/^}/s/    loader->unlocked = false;//
 right password keeps the count@s/    loader->wrong_count = 0;//
 wrong count without end@s/^        loader->wrong_count++;/&\n    else loader->wrong_count++;/
+right password clears the total@s/    loader->wrong_count = 0;/&\n    loader->tries = 0;/
+total wraps to 0@s/^        loader->tries++;/&\n    else loader->tries = 0;/
+total goes past 65,535@s/if (loader->tries < TRIES_LARGEST)/if (1)/
+total stops at 65,534@s/if (loader->tries < TRIES_LARGEST)/if (loader->tries < TRIES_LARGEST - 1)/
+third and later ones not in the total@s/if (loader->tries < TRIES_LARGEST)/if (loader->wrong_count < 2 \&\& loader->tries < TRIES_LARGEST)/
+fourth and later ones not in the total@s/if (loader->tries < TRIES_LARGEST)/if (loader->wrong_count < 3 \&\& loader->tries < TRIES_LARGEST)/
+wrong one of an unlocked session not in the total@/^static enum message wrong_password/,/^}/{s/^    loader->unlocked = false;/    bool was = loader->unlocked;\n&/;s/if (loader->tries < TRIES_LARGEST)/if (!was \&\& loader->tries < TRIES_LARGEST)/}
+total is the wrong count@s/^        loader->tries++;/        loader->tries = loader->wrong_count + 1u;/
+alert's disable clears the total@s/^        loader->burn = true;/&\n        loader->tries = 0;/
+idle clears the total@/^static bool pass_time/,/^}/s/^    loader->unlocked = false;$/&\n    loader->tries = loader->wrong_count;/
+Start clears the total@/case START:/,/return 0/s/        loader->unlocked = false;/&\n        loader->tries = loader->wrong_count;/
+total not stored@s/^    put32(record + AT_TRIES, loader->tries);//
+total stored in one byte@s/put32(record + AT_TRIES, loader->tries)/record[AT_TRIES] = (uint8_t)loader->tries/
+start keeps the old total@s/memset(record, 0, AT_FIELDS)/memset(record, 0, AT_TRIES)/
 alert only at the third@s/    if (loader->fields\[ALERT\] == ALERT_RESET)/    if (loader->fields[ALERT] == ALERT_RESET \&\& before < 3)/;s/    loader->sleep = SLEEP_LARGEST;/    unsigned before = loader->wrong_count;\n&/
 alert reset obeys the reset mode@s/    if (loader->fields\[ALERT\] == ALERT_RESET)/    if (loader->fields[ALERT] == ALERT_RESET \&\& loader->fields[RESET_MODE] != RESET_OFF)/
 disable stays asleep@s/^        loader->sleep = 0;$//
@@ -144,13 +158,18 @@ writer refuses 8 before 10@s/^    if (fields_size != FIELDS_SIZE)$/    if (field
 record unlocked and asleep taken@s/if (unlocked && sleep > 0)/if (0)/
 record with idle 10,000 taken@s/get32(record + AT_IDLE) >= IDLE_LIMIT/get32(record + AT_IDLE) > IDLE_LIMIT/
 record with lock 2 taken@s/ || record\[AT_LOCK\] > 1)/ || record[AT_LOCK] > 2)/
+record with a total below the count taken@s/tries < record\[AT_WRONG_COUNT\] || //
+record with a total like the count refused@s/tries < record\[AT_WRONG_COUNT\] ||/(record[AT_WRONG_COUNT] > 0 \&\& tries <= record[AT_WRONG_COUNT]) ||/
+record with a total of 65,536 taken@s/tries > TRIES_LARGEST)/tries > TRIES_LARGEST + 1)/
+record with a total of 65,535 refused@s/tries > TRIES_LARGEST)/tries >= TRIES_LARGEST)/
+record's total read by two bytes@s/tries = get32(record + AT_TRIES);/tries = get16(record + AT_TRIES);/
 record with other MAIN taken@s/ || main_size != get32(record + AT_MAIN_SIZE)/ || main_size < get32(record + AT_MAIN_SIZE)/
 reply area of 1,728 taken@s/reply_size < REPLY_AREA/reply_size < REPLY_AREA - 1/
 10 checked before 9@s/^    if (reply_size < REPLY_AREA)/    if (record_size == RECORD_SIZE \&\& !is_record(record)) return refused(10);\n&/
 standby checked before 10@s/^    if (settings_size != SETTINGS_SIZE || main_size/    if (record[AT_PHASE] > COMMAND) return 0;\n&/
 fuse taken by its low byte@s/if (fuse != 0)/if ((uint8_t)fuse != 0)/
 rate id cut to a byte@s/id >= 1 && id <= RATE_LARGEST ? rates\[id - 1\] : 0/(uint8_t)id >= 1 \&\& (uint8_t)id <= RATE_LARGEST ? rates[(uint8_t)id - 1] : 0/
-record keeps a start's old lock@s/memset(record, 0, AT_FIELDS)/memset(record + AT_SLEEP, 0, 12); record[AT_WRONG_COUNT] = 0/
+record keeps a start's old lock@s/memset(record, 0, AT_FIELDS)/memset(record + AT_SLEEP, 0, 16); record[AT_WRONG_COUNT] = 0/
 MAIN size cut to 32 bits@s/static bool main_size_allowed(size_t size)/static bool main_size_allowed(uint32_t size)/
 record size cut to 16 bits@s/record_size != RECORD_SIZE/(uint16_t)record_size != RECORD_SIZE/
 settings size cut to 16 bits@s/^    if (size != SETTINGS_SIZE)/    if ((uint16_t)size != SETTINGS_SIZE)/

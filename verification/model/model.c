@@ -149,9 +149,10 @@ static void write_image(const uint8_t *fields, uint8_t *image)
 
 /* ---- Numbers of refused calls ---- */
 
-enum { RECORD_SIZE = 90 };
-enum { AT_PHASE, AT_LOCK, AT_WRONG_COUNT, AT_RATE_ID, AT_SLEEP, AT_IDLE = 8, AT_MAIN_SIZE = 12, AT_FIELDS = 16 };
+enum { RECORD_SIZE = 94 };
+enum { AT_PHASE, AT_LOCK, AT_WRONG_COUNT, AT_RATE_ID, AT_SLEEP, AT_IDLE = 8, AT_TRIES = 12, AT_MAIN_SIZE = 16, AT_FIELDS = 20 };
 enum { SLEEP_LARGEST = 2000, IDLE_LIMIT = 10000, WRONG_LARGEST = 3, RATE_LARGEST = 9, RATE_AT_START = 2 };
+enum { TRIES_LARGEST = 65535 }; /* T-08 */
 
 enum phase { DETECT, COMMAND, STANDBY, ENDED, DISABLED };
 
@@ -186,10 +187,12 @@ static uint64_t judge_image(const uint8_t *image, size_t size, const uint8_t **f
 static bool is_record(const uint8_t *record)
 {
     bool unlocked = record[AT_LOCK] == 1;
-    uint32_t sleep = get32(record + AT_SLEEP);
+    uint32_t sleep = get32(record + AT_SLEEP), tries = get32(record + AT_TRIES);
     if (record[AT_PHASE] > DISABLED || record[AT_LOCK] > 1)
         return false;
     if (get32(record + AT_IDLE) >= IDLE_LIMIT || sleep > SLEEP_LARGEST || record[AT_WRONG_COUNT] > WRONG_LARGEST)
+        return false;
+    if (tries < record[AT_WRONG_COUNT] || tries > TRIES_LARGEST)
         return false;
     if (record[AT_RATE_ID] < 1 || record[AT_RATE_ID] > RATE_LARGEST)
         return false;
@@ -206,7 +209,7 @@ static bool is_record(const uint8_t *record)
 struct loader {
     uint8_t phase, wrong_count, rate_id;
     bool unlocked, burn;
-    uint32_t sleep, idle, main_size;
+    uint32_t sleep, idle, tries, main_size;
     const uint8_t *fields;
     uint8_t *main_flash, *settings;
 };
@@ -219,6 +222,7 @@ static struct loader decode(const uint8_t *record, uint8_t *main_flash, uint8_t 
                            .rate_id = record[AT_RATE_ID],
                            .sleep = get32(record + AT_SLEEP),
                            .idle = get32(record + AT_IDLE),
+                           .tries = get32(record + AT_TRIES),
                            .fields = record + AT_FIELDS,
                            .main_flash = main_flash,
                            .main_size = get32(record + AT_MAIN_SIZE),
@@ -233,6 +237,7 @@ static void encode(const struct loader *loader, uint8_t *record)
     record[AT_RATE_ID] = loader->rate_id;
     put32(record + AT_SLEEP, loader->sleep);
     put32(record + AT_IDLE, loader->idle);
+    put32(record + AT_TRIES, loader->tries);
 }
 
 /* Rules (b) and (c). False while still asleep, when the packet is dropped. */
@@ -432,6 +437,8 @@ static enum message wrong_password(struct loader *loader)
     loader->unlocked = false;
     loader->rate_id = RATE_AT_START;
     loader->sleep = SLEEP_LARGEST;
+    if (loader->tries < TRIES_LARGEST) /* T-08: how many in all; nothing clears it */
+        loader->tries++;
     if (loader->wrong_count < WRONG_LARGEST)
         loader->wrong_count++;
     if (loader->wrong_count < WRONG_LARGEST)

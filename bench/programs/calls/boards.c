@@ -8,7 +8,7 @@
 enum { RESET_PASSWORD_SIZE = 16, FRAME_SIZE = 7 };
 
 /* Where things stand in a record, and in fields. */
-enum { AT_PHASE, AT_LOCK, AT_WRONG, AT_RATE, AT_SLEEP };
+enum { AT_PHASE, AT_LOCK, AT_WRONG, AT_RATE, AT_SLEEP, AT_TRIES = 12 };
 enum { RESET_AT = 32, MODE_AT = 48, ALERT_AT, READOUT_AT, VERSION_AT = 62, PROTECTION_AT = 66 };
 
 static void put32(uint8_t *to, uint32_t number)
@@ -51,7 +51,7 @@ static void fill_record(struct board *board, size_t main_size, enum state state)
     board->record[AT_PHASE] = phases[state];
     board->record[AT_LOCK] = state == UNLOCKED;
     if (state == TWO_WRONG)
-        board->record[AT_WRONG] = 2;
+        board->record[AT_WRONG] = board->record[AT_TRIES] = 2;
     if (state == ASLEEP)
         put32(board->record + AT_SLEEP, 2000);
     if (state == NOT_VALID)

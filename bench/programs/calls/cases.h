@@ -7,7 +7,7 @@
 
 /* What is timed: one call of one function, on a board and with a packet that are made new for it. */
 
-enum { MAIN_MOST = 65536, SETTINGS_SIZE = 1024, RECORD_SIZE = 90, FIELDS_SIZE = 74 };
+enum { MAIN_MOST = 65536, SETTINGS_SIZE = 1024, RECORD_SIZE = 94, FIELDS_SIZE = 74 };
 enum { REPLY_SIZE = 1729, PACKET_MOST = 1728, PASSWORD_SIZE = 32, DETAILED_ERROR_REPLY = 12 };
 
 #define SETTINGS_AT 0x41C00000u

@@ -54,7 +54,7 @@ phase-again (suc (suc (suc (suc (suc code))))) lock sleep h =
     absurd (true≢false (sym h ∙ unknown-phase (suc (suc (suc (suc (suc code))))) lock sleep (omega arith)))
 
 -- four bytes, and those after them
-front-again : (area : List ℕ) → 4 ≤ length area → getD area 0 0 ∷ getD area 1 0 ∷ getD area 2 0 ∷ getD area 3 0 ∷ part 4 8 area ≡ part 0 12 area
+front-again : (area : List ℕ) → 4 ≤ length area → getD area 0 0 ∷ getD area 1 0 ∷ getD area 2 0 ∷ getD area 3 0 ∷ part 4 12 area ≡ part 0 16 area
 front-again (a ∷ b ∷ c ∷ d ∷ area) h = refl
 front-again [] h = absurd (omega arith)
 front-again (a ∷ []) h = absurd (omega arith)
@@ -62,40 +62,49 @@ front-again (a ∷ b ∷ []) h = absurd (omega arith)
 front-again (a ∷ b ∷ c ∷ []) h = absurd (omega arith)
 
 module _ (area : List ℕ) (each : (k : ℕ) → getD area k 0 < 256) (known : isRecordArea area ≡ true) where
-  area-size : length area ≡ 90
+  area-size : length area ≡ 94
   area-size = record-area-size area known
 
-  fits-and-unused : (phaseFits (getD area 0 0) (getD area 1 0) (numberAt 4 4 area) ≡ true) × (eqb (getD area 69 0) 0 ≡ true)
+  fits-and-unused : (phaseFits (getD area 0 0) (getD area 1 0) (numberAt 4 4 area) ≡ true) × (eqb (getD area 73 0) 0 ≡ true)
   unfolding isRecordArea
   fits-and-unused = pick-both _ _ (pick-both _ _ known .1)
 
-  standing-again : standingBytes (standingIn area) ≡ part 0 12 area
+  standing-again : standingBytes (standingIn area) ≡ part 0 16 area
   unfolding standingIn
   standing-again =
       let size = area-size in
       let coded = phase-again (getD area 0 0) (getD area 1 0) (numberAt 4 4 area) (fits-and-unused .0) in
-      rw (coded .code, coded .lock, coded .sleep, number-again area each 4 4 (omega arith), number-again area each 8 4 (omega arith), parts-join 4 4 4 area)
+      rw (
+        coded .code,
+        coded .lock,
+        coded .sleep,
+        number-again area each 4 4 (omega arith),
+        number-again area each 8 4 (omega arith),
+        number-again area each 12 4 (omega arith),
+        parts-join 8 4 4 area,
+        parts-join 4 4 8 area,
+      )
       (front-again area (omega arith))
 
-  fields-again : bodiesOf (sessionIn area .settings) ≡ part 16 74 area
+  fields-again : bodiesOf (sessionIn area .settings) ≡ part 20 74 area
   unfolding sessionIn
   fields-again =
       let size = area-size in
-      made-after-read (part 16 74 area) (length-part 16 74 area (omega arith)) (each-part 16 74 area each)
-      (getD-take 74 (drop 16 area) 53 0 (omega arith) ∙ getD-drop 16 area 53 0 ∙ eqb-true _ _ (fits-and-unused .1))
+      made-after-read (part 20 74 area) (length-part 20 74 area (omega arith)) (each-part 20 74 area each)
+      (getD-take 74 (drop 20 area) 53 0 (omega arith) ∙ getD-drop 20 area 53 0 ∙ eqb-true _ _ (fits-and-unused .1))
 
   pub encode-after-decode : recordOf (sessionIn area) ≡ area
   unfolding recordOf sessionIn
   encode-after-decode =
       let size = area-size in
-      ap₂ (λ (front fields : List ℕ). front ++ (bytesOf 4 (numberAt 12 4 area) ++ fields)) standing-again fields-again
-      ∙ rw (number-again area each 12 4 (omega arith), parts-join 12 4 74 area, parts-join 0 12 78 area) (take-all 90 area (omega arith))
+      ap₂ (λ (front fields : List ℕ). front ++ (bytesOf 4 (numberAt 16 4 area) ++ fields)) standing-again fields-again
+      ∙ rw (number-again area each 16 4 (omega arith), parts-join 16 4 74 area, parts-join 0 16 78 area) (take-all 94 area (omega arith))
 
   -- the size of MAIN and the fields, after the standing
-  rest-again : drop 12 area ≡ bytesOf 4 (sessionIn area .«main_size») ++ bodiesOf (sessionIn area .settings)
+  rest-again : drop 16 area ≡ bytesOf 4 (sessionIn area .«main_size») ++ bodiesOf (sessionIn area .settings)
   unfolding recordOf bytesOf
   rest-again =
-      ap (drop 12) (sym encode-after-decode) ∙ drop-at (standingBytes (sessionIn area .standing)) (bytesOf 4 (sessionIn area .«main_size») ++ bodiesOf (sessionIn area .settings)) 12 refl
+      ap (drop 16) (sym encode-after-decode) ∙ drop-at (standingBytes (sessionIn area .standing)) (bytesOf 4 (sessionIn area .«main_size») ++ bodiesOf (sessionIn area .settings)) 16 refl
 
   pub stands-anew : (standing : Standing) → sets area 0 (standingBytes standing) ≡ recordOf (standsThen (sessionIn area) standing)
   unfolding recordOf bytesOf

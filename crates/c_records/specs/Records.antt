@@ -15,9 +15,10 @@ use Rattle.settings.specs.Fields.{fieldsRead}
 use Rattle.session.specs.declared.Session.{Session}
 use Rattle.settings.specs.FieldsArea.{fieldsAreaSize, zeroAt}
 
--- a record has 90 bytes: phase, lock, wrong count and rate id; then sleep, idle and the size of MAIN, four bytes each; then the settings' fields
+-- a record has 94 bytes: phase, lock, wrong count and rate id; then sleep, idle and the total, four bytes each, and there ends what a call can
+-- change; then the size of MAIN, four bytes, and the settings' fields
 abbrev pub recordSize : ℕ
-recordSize = 90
+recordSize = 94
 
 abbrev pub sleepAt : ℕ
 sleepAt = 4
@@ -25,11 +26,15 @@ sleepAt = 4
 abbrev pub idleAt : ℕ
 idleAt = 8
 
+-- T-08: "The session record gains this number"
+abbrev pub triesAt : ℕ
+triesAt = 12
+
 abbrev pub mainSizeAt : ℕ
-mainSizeAt = 12
+mainSizeAt = 16
 
 abbrev pub fieldsAt : ℕ
-fieldsAt = 16
+fieldsAt = 20
 
 -- the zero byte of body 3
 abbrev pub zeroByteAt : ℕ
@@ -58,10 +63,13 @@ sleepOf Standby = 0
 sleepOf Ended = 0
 sleepOf Disabled = 0
 
+abbrev pub countersBytes : ℕ → ℕ → ℕ → List ℕ
+countersBytes sleep idle tries = bytesOf 4 sleep ++ (bytesOf 4 idle ++ bytesOf 4 tries)
+
 abbrev pub standingBytes : Standing → List ℕ
 standingBytes standing =
     phaseCode (standing .phase) ∷ lockCode (standing .phase) ∷ standing .wrong ∷ standing .rate
-    ∷ (bytesOf 4 (sleepOf (standing .phase)) ++ bytesOf 4 (standing .idle))
+    ∷ countersBytes (sleepOf (standing .phase)) (standing .idle) (standing .tries)
 
 unfoldable pub recordOf : Session → List ℕ
 recordOf session =
@@ -83,6 +91,7 @@ standingIn area = record {
   idle = numberAt idleAt 4 area;
   wrong = getD area 2 0;
   rate = getD area 3 0;
+  tries = numberAt triesAt 4 area;
 }
 
 unfoldable pub sessionIn : List ℕ → Session

@@ -6,6 +6,7 @@ use crate::IDLE_AT;
 use crate::MAIN_SIZE_AT;
 use crate::RECORD_SIZE;
 use crate::SLEEP_AT;
+use crate::TRIES_AT;
 use crate::ZERO_AT;
 use session::Session;
 use session_state::Phase;
@@ -34,6 +35,7 @@ fn standing_in(area: &[u8]) -> Standing
         idle: octets::number32_at(area, IDLE_AT),
         wrong: octets::byte_at(area, 2),
         rate: octets::byte_at(area, 3),
+        tries: octets::number32_at(area, TRIES_AT),
     }
 }
 

@@ -2,11 +2,12 @@
 ghost use mathlib.Core.Path.{_≡_};
 ghost use lib.Seq.{sets};
 ghost use lib.ListN.{length};
-ghost use Rattle.c_records.specs.Records.{phaseCode, lockCode, sleepOf, standingBytes, recordOf};
+ghost use Rattle.c_records.specs.Records.{phaseCode, lockCode, sleepOf, countersBytes, standingBytes, recordOf};
 use crate::FIELDS_AT;
 use crate::IDLE_AT;
 use crate::MAIN_SIZE_AT;
 use crate::SLEEP_AT;
+use crate::TRIES_AT;
 use session::Session;
 use session_state::Phase;
 use session_state::Standing;
@@ -55,6 +56,15 @@ fn sleep_of(phase: Phase) -> u32
     }
 }
 
+// Stores what a session counts behind the first four bytes of its record.
+fn put_counters(area: &mut [u8], sleep: u32, idle: u32, tries: u32)
+    ensures { λ _. ⌜ now (area .exit) ≡ sets (now (area .entry)) 4 (countersBytes sleep idle tries) ⌝ }
+{
+    octets::put_number(area, SLEEP_AT, 4, sleep);
+    octets::put_number(area, IDLE_AT, 4, idle);
+    octets::put_number(area, TRIES_AT, 4, tries);
+}
+
 // Stores how a session stands over the front of its record.
 pub(crate) fn put_standing(area: &mut [u8], standing: Standing)
     ensures { λ _. ⌜ now (area .exit) ≡ sets (now (area .entry)) 0 (standingBytes standing) ⌝ }
@@ -67,13 +77,12 @@ pub(crate) fn put_standing(area: &mut [u8], standing: Standing)
         standing.rate,
     ];
     octets::put(area, 0, &front);
-    octets::put_number(area, SLEEP_AT, 4, sleep_of(phase));
-    octets::put_number(area, IDLE_AT, 4, standing.idle);
+    put_counters(area, sleep_of(phase), standing.idle, standing.tries);
 }
 
 // Stores a session into an area of the record's size.
 pub(crate) fn put_record(area: &mut [u8], session: Session)
-    requires { ⌜ length (now area) ≡ 90 ⌝ }
+    requires { ⌜ length (now area) ≡ 94 ⌝ }
     ensures { λ _. ⌜ now (area .exit) ≡ recordOf session ⌝ }
 {
     let settings = session.settings;

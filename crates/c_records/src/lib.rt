@@ -34,16 +34,19 @@ pub(crate) const REPLY_AREA_TOO_SMALL: u64 = 9 * REFUSAL_UNIT;
 
 pub(crate) const RECORD_NOT_VALID: u64 = 10 * REFUSAL_UNIT;
 
-// A session record as bytes: phase, lock, wrong count and rate id, then sleep, idle and the size of MAIN, then the settings' fields.
-pub(crate) const RECORD_SIZE: usize = 90;
+// A session record as bytes: phase, lock, wrong count and rate id, then sleep, idle and the total of wrong passwords, which is all that a call
+// can change, then the size of MAIN and the settings' fields.
+pub(crate) const RECORD_SIZE: usize = 94;
 
 pub(crate) const SLEEP_AT: usize = 4;
 
 pub(crate) const IDLE_AT: usize = 8;
 
-pub(crate) const MAIN_SIZE_AT: usize = 12;
+pub(crate) const TRIES_AT: usize = 12;
 
-pub(crate) const FIELDS_AT: usize = 16;
+pub(crate) const MAIN_SIZE_AT: usize = 16;
+
+pub(crate) const FIELDS_AT: usize = 20;
 
 // The zero byte of body 3.
 pub(crate) const ZERO_AT: usize = FIELDS_AT + settings::ZERO_AT;

@@ -15,6 +15,8 @@ pub mod RecordRule
 pub mod BoundaryRule
 -- ScriptRule: a script keeps the form exactly where it is made of entries.
 pub mod ScriptRule
+-- TriesRule: what the total of wrong passwords counts.
+pub mod TriesRule
 -- VerifyRule: a test that Verify had changed no reply.
 pub mod VerifyRule
 -- ProtectedRule: Range erase and Program are refused where they would touch a protected place, and Range erase nowhere else.

@@ -29,5 +29,6 @@ pub record Held (settings : Settings) : Type 0 where
 pub record HeldSession (session : Session) : Type 0 where
   pub sleep : sleepOf (session .standing .phase) < 256 ^ 4
   pub idle : session .standing .idle < 256 ^ 4
+  pub tries : session .standing .tries < 256 ^ 4
   pub main : session .«main_size» < 256 ^ 4
   pub settings : Held (session .settings)

@@ -117,7 +117,7 @@ pub record Alike (part : Part) (one other : Images) (oneLeft otherLeft : Left) :
   -- "Every reply is the same": refusal, length and burn, and the bytes
   pub answers : oneLeft .answer ≡ otherLeft .answer
   pub replies : replied oneLeft ≡ replied otherLeft
-  -- "sleep, rate and phase included", and idle time and the wrong count too
+  -- "sleep, rate and phase included", and idle time, the wrong count and, as T-08 asks, the total of wrong passwords too
   pub standing : oneLeft .session .standing ≡ otherLeft .session .standing
   -- "Neither unlocks."
   pub locked : isUnlocked (oneLeft .session .standing .phase) ≡ false

@@ -62,7 +62,7 @@ pub record AlikeFromC (part : Part) (one other : Images) (oneLeft otherLeft : Ca
   -- "Every reply is the same": the returned numbers, and the bytes
   pub answers : oneLeft .answer ≡ otherLeft .answer
   pub replies : repliedFromC oneLeft ≡ repliedFromC otherLeft
-  -- the first 16 bytes of the records: phase, lock, wrong count, rate id, sleep, idle time and the size of MAIN
+  -- the first 20 bytes of the records: phase, lock, wrong count, rate id, sleep, idle time, the total and the size of MAIN
   pub stands : standsFromC (oneLeft .area) ≡ standsFromC (otherLeft .area)
   -- "Neither unlocks."
   pub locked : lockIn (oneLeft .area) ≡ 0

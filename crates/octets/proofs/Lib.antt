@@ -15,3 +15,5 @@ pub mod AlikeLaws
 pub mod StoreLaws
 -- HexLaws: the text of some bytes, stored one byte after the other.
 pub mod HexLaws
+-- DecimalLaws: a number's digits, one by one, without the zeros before them, and read again.
+pub mod DecimalLaws

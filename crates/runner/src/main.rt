@@ -21,7 +21,7 @@ fn print_line(number: u8, reply: &[u8]) {
 fn print_end(standing: Standing) {
     let phase = standing.phase;
     let mut line = [0u8; LINE_SIZE];
-    let size = runner_text::write_end(phase, &mut line);
+    let size = runner_text::write_end(phase, standing.tries, &mut line);
     io::write_all(STDOUT_FILENO, octets::part_of(&line, 0, size));
 }
 

@@ -12,9 +12,13 @@ use lib.Seq.{sets}
 use Rattle.octets.proofs.Searching.{pick-true, pick-false, by-pick}
 use Rattle.octets.proofs.StoreLaws.{sets-join}
 use Rattle.octets.proofs.HexLaws.{length-hex}
-use Rattle.runner_text.specs.Digits.{text, digitsIn, decimalOf}
+use Rattle.octets.specs.Decimal.{digitsIn, decimalOf}
+use Rattle.octets.proofs.DecimalLaws.{length-digits}
+use Rattle.runner_text.specs.Text.{text}
 use Rattle.runner_text.specs.Writing.{replyText, textSize, lineOf}
-use Rattle.runner_text.proofs.DigitLaws.{length-decimal}
+
+pub length-decimal : (number : ℕ) → length (decimalOf number) ≡ digitsIn number
+length-decimal number = length-digits (digitsIn number) number
 
 pub length-text : (reply : List ℕ) → length (replyText reply) ≡ textSize (length reply)
 unfolding replyText
@@ -50,3 +54,21 @@ module _ (number : ℕ) (reply : List ℕ) where
       sets-join (sets area 0 (decimalOf number)) (digitsIn number) (digitsIn number + textSize (length reply)) (replyText reply) (text "\n")
       (omega (arith, length-text reply))
       ∙ sets-join area 0 (digitsIn number) (decimalOf number) (replyText reply ++ (text "\n")) (omega (arith, length-decimal number))
+
+-- a line that ends with a number
+module _ (start : List ℕ) (number : ℕ) where
+  pub length-numbered : length (start ++ (decimalOf number ++ text "\n")) ≡ length start + digitsIn number + 1
+  length-numbered =
+      omega (
+        arith,
+        length-append start (decimalOf number ++ text "\n"),
+        length-append (decimalOf number) (text "\n"),
+        length-decimal number,
+      )
+
+  pub numbered-made : (area : List ℕ)
+      → sets (sets (sets area 0 start) (length start) (decimalOf number)) (length start + digitsIn number) (text "\n")
+      ≡ sets area 0 (start ++ (decimalOf number ++ text "\n"))
+  numbered-made area =
+      sets-join (sets area 0 start) (length start) (length start + digitsIn number) (decimalOf number) (text "\n") (omega (arith, length-decimal number))
+      ∙ sets-join area 0 (length start) start (decimalOf number ++ text "\n") (omega arith)

@@ -6,12 +6,14 @@ use lib.ListN.{length}
 use lib.Seq.{sets}
 use Rattle.octets.specs.Choice.{pick}
 use Rattle.octets.specs.Hex.{hexOf}
-use Rattle.runner_text.specs.Digits.{text, decimalOf}
+use Rattle.octets.specs.Decimal.{decimalOf}
+use Rattle.runner_text.specs.Text.{text}
 
 -- "the reply in hex, or "-"", with the space before it
 unfoldable pub replyText : List ℕ → List ℕ
 replyText reply = pick (eqb (length reply) 0) (text " -") (hexOf reply)
 
+-- "number from 1, a space, the reply in hex"
 unfoldable pub lineOf : ℕ → List ℕ → List ℕ
 lineOf number reply = decimalOf number ++ (replyText reply ++ text "\n")
 

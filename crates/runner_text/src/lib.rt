@@ -1,5 +1,4 @@
 // The text of the session runner: the script that it reads, and the lines that it writes.
-mod digits;
 mod end_line;
 mod form;
 mod writing;

@@ -5,7 +5,6 @@ ghost use lib.Dec.{ltb};
 ghost use lib.ListN.{length};
 ghost use lib.Seq.{sets};
 ghost use Rattle.runner_text.specs.Writing.{replyText, textSize, lineOf, written, writtenOf};
-use crate::digits;
 
 // A reply as text: a dash where it has no bytes. Answers the place after it.
 fn put_reply(area: &mut [u8], at: usize, reply: &[u8]) -> usize
@@ -22,7 +21,7 @@ fn put_reply(area: &mut [u8], at: usize, reply: &[u8]) -> usize
 
 // Whether an area of so many bytes has no room for a line with so many digits and so many bytes of a reply.
 fn is_too_small(size: usize, digits: usize, count: usize) -> bool
-    requires { ⌜ digits ≤ 3 ⌝ }
+    requires { ⌜ digits ≤ 10 ⌝ }
     ensures { λ r. ⌜ r ≡ ltb size (digits + textSize count + 1) ⌝ }
 {
     if count == 0 {
@@ -36,11 +35,11 @@ fn is_too_small(size: usize, digits: usize, count: usize) -> bool
 pub fn write_line(number: u8, reply: &[u8], area: &mut [u8]) -> usize
     ensures { λ r. ⌜ written r (now (area .exit)) ≡ writtenOf (lineOf number (now (reply .entry))) (now (area .entry)) ⌝ }
 {
-    let count = digits::digits_in(number);
+    let count = octets::digits_in(number as u32);
     if is_too_small(area.len(), count, reply.len()) {
         return 0;
     }
-    digits::put_decimal(area, number);
+    octets::put_decimal(area, 0, number as u32);
     let end = put_reply(area, count, reply);
     octets::put(area, end, b"\n");
     end + 1

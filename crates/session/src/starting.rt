@@ -24,6 +24,7 @@ fn at_start() -> Standing
         idle: 0,
         wrong: 0,
         rate: RATE_ID_AT_START,
+        tries: 0,
     }
 }
 

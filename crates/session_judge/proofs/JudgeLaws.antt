@@ -15,7 +15,7 @@ use Rattle.session_state.specs.declared.Passed.{Passed}
 use Rattle.session_state.specs.Phases.{rateIdAtStart, mostWrong, isUnlocked, isValid}
 use Rattle.session_state.specs.Waits.{movedTo, dropped, passTimeIn, passTime}
 use Rattle.session_state.proofs.PhaseLaws.{Valid, valid-by-parts, parts-make-valid}
-use Rattle.session_state.proofs.WaitLaws.{time-keeps-valid, time-keeps-wrong-count-and-rate, time-never-unlocks, long-wait-is-heard}
+use Rattle.session_state.proofs.WaitLaws.{time-keeps-valid, time-keeps-counts-and-rate, time-never-unlocks, long-wait-is-heard}
 use Rattle.session_judge.specs.declared.Effect.the-variants.{Strike}
 use Rattle.session_judge.specs.declared.Judged.{Judged}
 use Rattle.session_judge.specs.Unlocking.{asleep, alertReset, alertDisable}
@@ -44,17 +44,17 @@ module _ (lastRate : ℕ) (standing : Standing) (alert wait : ℕ) (packet : Lis
   judge-keeps-valid two h =
       let v = valid-by-parts lastRate _ (time-keeps-valid lastRate standing wait h) in
       judged-by-outcome lastRate (λ j. isValid lastRate (j .standing) ≡ true) alert right standing wait packet
-      (parts-make-valid lastRate _ (record { idle = omega arith; wrong = v .wrong; rate = v .rate; phase = refl }))
+      (parts-make-valid lastRate _ (record { idle = omega arith; wrong = v .wrong; tries = v .tries; most = v .most; rate = v .rate; phase = refl }))
       (λ idle less.
       let k : Valid lastRate (movedTo (passTime standing wait .standing) (passTime standing wait .standing .phase) idle)
-      = record { idle = omega arith; wrong = v .wrong; rate = v .rate; phase = v .phase } in
+      = record { idle = omega arith; wrong = v .wrong; tries = v .tries; most = v .most; rate = v .rate; phase = v .phase } in
       record {
         said = λ reply. parts-make-valid lastRate _ k;
         informed = parts-make-valid lastRate _ k;
         performed = λ task u. parts-make-valid lastRate _ k;
-        ended = parts-make-valid lastRate _ (record { idle = k .idle; wrong = k .wrong; rate = k .rate; phase = refl });
-        rated = λ id known. parts-make-valid lastRate _ (record { idle = k .idle; wrong = k .wrong; rate = known; phase = k .phase });
-        unlocked = λ y. parts-make-valid lastRate _ (record { idle = k .idle; wrong = omega arith; rate = k .rate; phase = refl });
+        ended = parts-make-valid lastRate _ (record { idle = k .idle; wrong = k .wrong; tries = k .tries; most = k .most; rate = k .rate; phase = refl });
+        rated = λ id known. parts-make-valid lastRate _ (record { idle = k .idle; wrong = k .wrong; tries = k .tries; most = k .most; rate = known; phase = k .phase });
+        unlocked = λ y. parts-make-valid lastRate _ (record { idle = k .idle; wrong = omega arith; tries = omega arith; most = k .most; rate = k .rate; phase = refl });
         wrong = λ n few. wrong-is-valid lastRate two _ asleep k refl;
         struck = λ n third e. wrong-is-valid lastRate two _ asleep k refl;
         disabled = λ n third e. wrong-is-valid lastRate two _ Disabled k refl;
@@ -86,7 +86,7 @@ module _ (lastRate : ℕ) (standing : Standing) (alert wait : ℕ) (packet : Lis
   pub wrong-count-rises : isValid lastRate standing ≡ true → right ≡ false → standing .wrong ≤ judgedOf lastRate standing alert wait packet right .standing .wrong
   wrong-count-rises h w =
       let few = valid-by-parts lastRate standing h .wrong in
-      let same = time-keeps-wrong-count-and-rate standing wait .0 in
+      let same = time-keeps-counts-and-rate standing wait .0 in
       let more = counted-up (passTime standing wait .standing .wrong) .0 (omega arith) in
       judged-by-outcome lastRate (λ j. standing .wrong ≤ j .standing .wrong) alert right standing wait packet
       (omega arith)
@@ -159,7 +159,7 @@ module _ (lastRate : ℕ) (standing : Standing) (alert wait : ℕ) (packet : Lis
   pub third-wrong-strikes : alert ≡ alertReset → standing .wrong < mostWrong
       → judgedOf lastRate standing alert wait packet right .standing .wrong ≡ mostWrong → judgedOf lastRate standing alert wait packet right .effect ≡ Strike
   third-wrong-strikes reset few =
-      let same = time-keeps-wrong-count-and-rate standing wait .0 in
+      let same = time-keeps-counts-and-rate standing wait .0 in
       judged-by-outcome lastRate (λ j. j .standing .wrong ≡ mostWrong → j .effect ≡ Strike) alert right standing wait packet
       (λ h. absurd (omega arith))
       (λ idle less.

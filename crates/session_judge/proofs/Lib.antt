@@ -9,3 +9,5 @@ pub mod OutcomeLaws
 pub mod JudgeLaws
 -- StrangerLaws: what a packet without the password does.
 pub mod StrangerLaws
+-- TriesLaws: what adds to the total of wrong passwords.
+pub mod TriesLaws

@@ -23,7 +23,7 @@ use Rattle.session_state.specs.declared.Standing.{Standing}
 use Rattle.session_state.specs.Phases.{mostWrong, isValid}
 use Rattle.session_state.specs.Waits.{passTime}
 use Rattle.session_state.proofs.PhaseLaws.{valid-by-parts}
-use Rattle.session_state.proofs.WaitLaws.{time-keeps-wrong-count-and-rate}
+use Rattle.session_state.proofs.WaitLaws.{time-keeps-counts-and-rate}
 use Rattle.session_judge.specs.declared.Judged.{Judged}
 use Rattle.session_judge.specs.declared.Effect.the-variants.{Strike}
 use Rattle.session_judge.specs.Unlocking.{countedUp, alertReset, tried}
@@ -99,7 +99,7 @@ module _ (lastRate : ℕ) (standing : Standing) (alert wait : ℕ) (packet : Lis
       → isThird (judgedOf lastRate standing alert wait packet false .standing .wrong) ≡ isThird (standing .wrong)
   no-third-without-strike valid reset =
       let few = valid-by-parts lastRate standing valid .wrong in
-      let same = time-keeps-wrong-count-and-rate standing wait .0 in
+      let same = time-keeps-counts-and-rate standing wait .0 in
       let more = counted-up (passTime standing wait .standing .wrong) .0 (omega arith) in
       judged-by-outcome lastRate (λ j. (j .effect ≡ Strike → ⊥) → isThird (j .standing .wrong) ≡ isThird (standing .wrong)) alert false standing wait packet
       (λ h. ap isThird same)

@@ -7,3 +7,5 @@ pub mod Unlocking
 pub mod Obeying
 -- Hearing: waits, the empty packet, detect, and the acknowledgement.
 pub mod Hearing
+-- Tries: which packets are a wrong password.
+pub mod Tries

@@ -17,7 +17,7 @@ use Rattle.session_judge.specs.Unlocking.{tried}
 
 -- "0x52 Rate: the id holds after the reply." The next session has it; who sends this call's reply sends it at the rate before.
 abbrev pub withRate : Standing → ℕ → Standing
-withRate standing id = record { phase = standing .phase; idle = standing .idle; wrong = standing .wrong; rate = id }
+withRate standing id = record { phase = standing .phase; idle = standing .idle; wrong = standing .wrong; rate = id; tries = standing .tries }
 
 -- "Order for the others: unknown code 04; protected and locked 01; wrong L 06; then each one's own checks."
 -- "0x12 Connect, L 1: nothing more." "0x40 Start, L 1: ended and locked."

@@ -35,6 +35,7 @@ fn connected(standing: Standing) -> Standing
         idle: 0,
         wrong: standing.wrong,
         rate: standing.rate,
+        tries: standing.tries,
     }
 }
 
@@ -84,6 +85,7 @@ fn stirred(standing: Standing, command: Command) -> Standing
             idle: 0,
             wrong: standing.wrong,
             rate: standing.rate,
+            tries: standing.tries,
         };
     }
     standing

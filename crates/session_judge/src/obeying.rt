@@ -20,6 +20,7 @@ fn ended(standing: Standing) -> Standing
         idle: standing.idle,
         wrong: standing.wrong,
         rate: standing.rate,
+        tries: standing.tries,
     }
 }
 
@@ -32,6 +33,7 @@ fn with_rate(standing: Standing, id: u8) -> Standing
         idle: standing.idle,
         wrong: standing.wrong,
         rate: id,
+        tries: standing.tries,
     }
 }
 

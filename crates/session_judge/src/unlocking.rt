@@ -1,11 +1,12 @@
 // Unlock: what a right and what a wrong password do.
 ghost use mathlib.Core.Path.{_≡_};
-ghost use Rattle.session_judge.specs.Unlocking.{countedUp, afterWrong, alerted, tried};
+ghost use Rattle.session_judge.specs.Unlocking.{countedUp, triedOnce, afterWrong, alerted, tried};
 use crate::Effect;
 use crate::Judged;
 use line::Reply;
 use line::codes;
 use session_state::MOST_SLEEP;
+use session_state::MOST_TRIES;
 use session_state::MOST_WRONG;
 use session_state::Phase;
 use session_state::RATE_ID_AT_START;
@@ -32,6 +33,16 @@ fn counted_up(wrong: u8) -> u8
     MOST_WRONG
 }
 
+// One more of all wrong passwords, up to the most that are told.
+fn tried_once(tries: u32) -> u32
+    ensures { λ r. ⌜ r ≡ triedOnce tries ⌝ }
+{
+    if MOST_TRIES <= tries {
+        return tries;
+    }
+    tries + 1
+}
+
 // What is decided of a wrong password, in a phase and with an effect that the count and the alert decide.
 fn judged_wrong(standing: Standing, phase: Phase, effect: Effect, burn: bool) -> Judged
     ensures { λ r. ⌜ r ≡ record { standing = afterWrong standing phase; effect = effect; burn = burn } ⌝ }
@@ -41,6 +52,7 @@ fn judged_wrong(standing: Standing, phase: Phase, effect: Effect, burn: bool) ->
         idle: standing.idle,
         wrong: counted_up(standing.wrong),
         rate: RATE_ID_AT_START,
+        tries: tried_once(standing.tries),
     };
     Judged {
         standing: after,
@@ -76,6 +88,7 @@ pub(crate) fn tried(standing: Standing, alert: u8, right: bool) -> Judged
             idle: standing.idle,
             wrong: 0,
             rate: standing.rate,
+            tries: standing.tries,
         };
         return Judged {
             standing: unlocked,

@@ -64,7 +64,7 @@ moved-is-valid : (lastRate : ℕ) (standing : Standing) (phase : Phase) (idle : 
     → isValidPhase phase ≡ true → idle ≤ mostIdle → isValid lastRate (movedTo standing phase idle) ≡ true
 moved-is-valid lastRate standing phase idle h p i =
     let v = valid-by-parts lastRate standing h in
-    parts-make-valid lastRate (movedTo standing phase idle) (record { idle = i; wrong = v .wrong; rate = v .rate; phase = p })
+    parts-make-valid lastRate (movedTo standing phase idle) (record { idle = i; wrong = v .wrong; tries = v .tries; most = v .most; rate = v .rate; phase = p })
 
 -- without sleep the lock may be open or shut
 awake-is-valid : (unlocked : Bool) → isValidPhase (Command unlocked 0) ≡ true
@@ -94,17 +94,18 @@ time-keeps-valid lastRate standing wait h =
       awake = λ unlocked sleep e small. moved-is-valid lastRate standing (Command unlocked 0) _ h (awake-is-valid unlocked) small;
     })
 
-pub time-keeps-wrong-count-and-rate : (standing : Standing) (wait : ℕ)
+pub time-keeps-counts-and-rate : (standing : Standing) (wait : ℕ)
     → (passTime standing wait .standing .wrong ≡ standing .wrong) × (passTime standing wait .standing .rate ≡ standing .rate)
-time-keeps-wrong-count-and-rate standing wait =
-    time-by-outcome (λ passed. (passed .standing .wrong ≡ standing .wrong) × (passed .standing .rate ≡ standing .rate)) standing wait
+    × (passTime standing wait .standing .tries ≡ standing .tries)
+time-keeps-counts-and-rate standing wait =
+    time-by-outcome (λ passed. (passed .standing .wrong ≡ standing .wrong) × (passed .standing .rate ≡ standing .rate) × (passed .standing .tries ≡ standing .tries)) standing wait
     (record {
-      still = (refl, refl);
-      standby = (refl, refl);
-      detect = λ small. (refl, refl);
-      asleep = λ unlocked sleep e longer. (refl, refl);
-      locked = (refl, refl);
-      awake = λ unlocked sleep e small. (refl, refl);
+      still = (refl, refl, refl);
+      standby = (refl, refl, refl);
+      detect = λ small. (refl, refl, refl);
+      asleep = λ unlocked sleep e longer. (refl, refl, refl);
+      locked = (refl, refl, refl);
+      awake = λ unlocked sleep e small. (refl, refl, refl);
     })
 
 -- what is unlocked after a wait was unlocked before it

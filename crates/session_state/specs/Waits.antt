@@ -9,9 +9,9 @@ use Rattle.session_state.specs.declared.Phase.the-variants.{Detect, Comm
 use Rattle.session_state.specs.declared.Standing.{Standing}
 use Rattle.session_state.specs.declared.Passed.{Passed}
 
--- another phase and idle time; the wrong count and the rate stay
+-- another phase and idle time; the wrong count, the rate and the total stay
 abbrev pub movedTo : Standing → Phase → ℕ → Standing
-movedTo standing phase idle = record { phase = phase; idle = idle; wrong = standing .wrong; rate = standing .rate }
+movedTo standing phase idle = record { phase = phase; idle = idle; wrong = standing .wrong; rate = standing .rate; tries = standing .tries }
 
 -- the packet is handled
 abbrev pub heard : Standing → Passed

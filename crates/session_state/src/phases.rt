@@ -1,8 +1,9 @@
 // Which standings are valid.
 ghost use mathlib.Core.Path.{_≡_};
-ghost use Rattle.session_state.specs.Phases.{isValidPhase, isValid};
+ghost use Rattle.session_state.specs.Phases.{isValidPhase, countsFit, isValid};
 use crate::MOST_IDLE;
 use crate::MOST_SLEEP;
+use crate::MOST_TRIES;
 use crate::MOST_WRONG;
 use crate::Phase;
 use crate::Standing;
@@ -26,6 +27,19 @@ fn is_valid_phase(phase: Phase) -> bool
     }
 }
 
+// Whether the count and the total of wrong passwords go together.
+fn counts_fit(wrong: u8, tries: u32) -> bool
+    ensures { λ r. ⌜ r ≡ countsFit wrong tries ⌝ }
+{
+    if MOST_WRONG < wrong {
+        return false;
+    }
+    if tries < wrong as u32 {
+        return false;
+    }
+    tries <= MOST_TRIES
+}
+
 // Whether a record may say that a session stands so, on a part whose last rate has the given id.
 pub fn is_valid(last_rate: u8, standing: Standing) -> bool
     ensures { λ r. ⌜ r ≡ isValid «last_rate» standing ⌝ }
@@ -33,7 +47,7 @@ pub fn is_valid(last_rate: u8, standing: Standing) -> bool
     if MOST_IDLE < standing.idle {
         return false;
     }
-    if MOST_WRONG < standing.wrong {
+    if !counts_fit(standing.wrong, standing.tries) {
         return false;
     }
     if standing.rate < codes::FIRST_RATE_ID {

@@ -17,7 +17,7 @@ fn is_idle_too_long(standing: Standing, rest: u32) -> bool
     IDLE_LIMIT as u64 <= standing.idle as u64 + rest as u64
 }
 
-// Another phase and idle time; the wrong count and the rate stay.
+// Another phase and idle time; the wrong count, the rate and the total stay.
 fn moved_to(standing: Standing, phase: Phase, idle: u32) -> Standing
     ensures { λ r. ⌜ r ≡ movedTo standing phase idle ⌝ }
 {
@@ -26,6 +26,7 @@ fn moved_to(standing: Standing, phase: Phase, idle: u32) -> Standing
         idle,
         wrong: standing.wrong,
         rate: standing.rate,
+        tries: standing.tries,
     }
 }
 

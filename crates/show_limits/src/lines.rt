@@ -38,6 +38,7 @@ pub(crate) fn show_standing(standing: Standing) {
     text::say_number(sleep_of(phase) as u64);
     text::say_number(standing.idle as u64);
     text::say_number(standing.wrong as u64);
+    text::say_number(standing.tries as u64);
     text::say_number(standing.rate as u64);
 }
 

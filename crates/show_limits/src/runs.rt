@@ -45,7 +45,7 @@ fn call(session: Session, main: &mut [u8], image: &mut [u8], row: &[u8]) -> Sess
 fn show_board(row: &[u8]) {
     text::say(b"\n");
     say_row(row);
-    text::say(b"  phase    sleep  idle wrong  rate  main   set reply");
+    text::say(b"  phase    sleep  idle wrong tries  rate  main   set reply");
 }
 
 // The board of a row. MAIN has no byte 0xFF at first.

@@ -171,9 +171,11 @@ static void choose_standing(struct dice *dice, uint8_t *record)
 {
     static const uint32_t idles[] = {0, 0, 1, 5000, 7999, 8000, 9998, 9999};
     static const uint32_t sleeps[] = {1, 2, 999, 1999, 2000};
+    static const uint32_t totals[] = {3, 3, 4, 255, 255, 65534, 65534, 65535};
     memset(record, 0, RECORD_FIELDS_AT);
     record[PHASE_AT] = (uint8_t)(chance(dice, 70) ? PHASE_COMMAND : below(dice, 5));
     record[COUNT_AT] = (uint8_t)below(dice, 4);
+    write32(record + TRIES_AT, chance(dice, 40) ? record[COUNT_AT] : ONE_OF(dice, totals));
     record[RATE_AT] = (uint8_t)(1 + below(dice, 9));
     write32(record + IDLE_AT, chance(dice, 70) ? ONE_OF(dice, idles) : below(dice, 10000));
     if (record[PHASE_AT] != PHASE_COMMAND)
@@ -190,10 +192,17 @@ static uint32_t over(struct dice *dice, uint32_t limit)
     return chance(dice, 60) ? limit + 1 : limit + 1 + below(dice, 0xFFFFFFFFu - limit);
 }
 
+/* A total below the wrong count. */
+static void break_total(struct dice *dice, uint8_t *record)
+{
+    record[COUNT_AT] = (uint8_t)(1 + below(dice, 3));
+    write32(record + TRIES_AT, below(dice, record[COUNT_AT]));
+}
+
 /* One clause of refusal 10 broken. */
 static void break_record(struct dice *dice, uint8_t *record)
 {
-    uint32_t clause = below(dice, 11);
+    uint32_t clause = below(dice, 13);
     if (clause == 0)
         record[PHASE_AT] = (uint8_t)(chance(dice, 60) ? 5 : 5 + below(dice, 251));
     if (clause == 1)
@@ -216,6 +225,10 @@ static void break_record(struct dice *dice, uint8_t *record)
         write32(record + SLEEP_AT, 1 + below(dice, 2000));
     if (clause == 10)
         write32(record + MAIN_SIZE_AT, over(dice, MAIN_LARGEST));
+    if (clause == 11)
+        break_total(dice, record);
+    if (clause == 12)
+        write32(record + TRIES_AT, over(dice, 65535));
 }
 
 struct step choose_record(struct dice *dice, uint32_t main_size)

@@ -58,13 +58,13 @@ static size_t choose_settings_size(struct dice *dice)
 
 static size_t choose_record_size(struct dice *dice)
 {
-    static const size_t wrong[] = {0, 1, 74, 89, 91, 128};
-    return mostly(dice, RECORD_BYTES, wrong, 6);
+    static const size_t wrong[] = {0, 1, 74, 90, 93, 95, 128};
+    return mostly(dice, RECORD_BYTES, wrong, 7);
 }
 
 static size_t choose_fields_size(struct dice *dice)
 {
-    static const size_t wrong[] = {0, 1, 73, 75, 90};
+    static const size_t wrong[] = {0, 1, 73, 75, 94};
     return chance(dice, 85) ? FIELDS_BYTES : ONE_OF(dice, wrong);
 }
 

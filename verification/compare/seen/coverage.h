@@ -32,13 +32,15 @@
     P(CLAUSE_SHORT, "10, one clause alone", "record area short") P(CLAUSE_LONG, "", "record area long") \
     P(CLAUSE_PHASE, "", "phase byte") P(CLAUSE_LOCK, "", "lock byte") P(CLAUSE_IDLE, "", "idle") \
     P(CLAUSE_SLEEP, "", "sleep") P(CLAUSE_COUNT, "", "wrong count") P(CLAUSE_RATE_0, "", "rate id 0") \
+    P(CLAUSE_TOTAL_BELOW, "", "total below the count") P(CLAUSE_TOTAL, "", "total above 65,535") \
     P(CLAUSE_RATE, "", "rate id above 9") P(CLAUSE_MODE, "", "reset mode") P(CLAUSE_ALERT, "", "alert") \
     P(CLAUSE_PROTECTED, "", "settings protected") P(CLAUSE_ZERO, "", "zero byte") \
     P(CLAUSE_UNLOCKED_OUTSIDE, "", "unlocked outside command") P(CLAUSE_SLEEP_OUTSIDE, "", "sleep outside command") \
     P(CLAUSE_UNLOCKED_SLEEP, "", "unlocked and asleep") P(CLAUSE_MAIN, "", "MAIN size") \
     P(CLAUSE_SETTINGS, "", "settings area") P(CLAUSE_UNLIKE, "", "MAIN unlike the lent") \
     P(CLAUSE_IDLE_EDGE, "", "idle 10,000") P(CLAUSE_SLEEP_EDGE, "", "sleep 2,001") \
-    P(CLAUSE_COUNT_EDGE, "", "count 4") \
+    P(CLAUSE_COUNT_EDGE, "", "count 4") P(CLAUSE_TOTAL_BELOW_EDGE, "", "total one below the count") \
+    P(CLAUSE_TOTAL_EDGE, "", "total 65,536") \
     P(IN_DETECT, "call in phase", "detect") P(IN_LOCKED, "", "command locked") \
     P(IN_UNLOCKED, "", "command unlocked") P(IN_ASLEEP, "", "command asleep") P(IN_STANDBY, "", "standby") \
     P(IN_ENDED, "", "ended") P(IN_DISABLED, "", "disabled") \
@@ -63,6 +65,10 @@
     P(ALERT_2_LATER, "", "disable") \
     P(ALERT_RESET_MODE_0, "alert reset in reset mode", "0") P(ALERT_RESET_MODE_1, "", "1") \
     P(ALERT_RESET_MODE_2, "", "2") \
+    P(WRONG_AT_0, "wrong password, total then 1 more", "from 0") P(WRONG_AT_3, "", "from 3") \
+    P(WRONG_AT_65534, "", "from 65,534") P(WRONG_LATER, "", "from the fourth on") P(WRONG_UNLOCKED, "", "unlocked") \
+    P(TOTAL_STOPS, "total stays", "wrong password at 65,535") P(TOTAL_KEPT, "", "right password clears the count") \
+    P(TOTAL_AS_COUNT, "", "taken, as large as a count above 0") \
     P(BURN, "alert", "burn the fuse") P(PASSWORD_KEPT, "", "unlocked by the session's password over blank settings") \
     P(SECTOR_MASS, "protected sector skipped by", "Mass erase") P(SECTOR_FACTORY, "", "Factory reset") \
     P(SECTOR_ALERT, "", "alert reset") \

@@ -109,6 +109,7 @@ static int broken_clauses(const struct sight *sight, int *last)
     const uint8_t *record = sight->before, *fields = record + RECORD_FIELDS_AT;
     bool unlocked = record[LOCK_AT] == 1, command = record[PHASE_AT] == PHASE_COMMAND;
     uint32_t sleep = read32(record + SLEEP_AT), main_size = read32(record + MAIN_SIZE_AT);
+    uint32_t total = read32(record + TRIES_AT);
     const struct {
         bool broken;
         int clause;
@@ -117,6 +118,8 @@ static int broken_clauses(const struct sight *sight, int *last)
                    {read32(record + IDLE_AT) > 9999, CLAUSE_IDLE},
                    {sleep > 2000, CLAUSE_SLEEP},
                    {record[COUNT_AT] > 3, CLAUSE_COUNT},
+                   {total < record[COUNT_AT], CLAUSE_TOTAL_BELOW},
+                   {total > 65535, CLAUSE_TOTAL},
                    {record[RATE_AT] == 0, CLAUSE_RATE_0},
                    {record[RATE_AT] > 9, CLAUSE_RATE},
                    {fields[RESET_MODE_AT] > 2, CLAUSE_MODE},
@@ -138,6 +141,11 @@ static int broken_clauses(const struct sight *sight, int *last)
     return count;
 }
 
+static uint32_t total_before(const struct sight *sight)
+{
+    return read32(sight->before + TRIES_AT);
+}
+
 static void observe_clause(const struct sight *sight)
 {
     int clause = 0;
@@ -153,6 +161,8 @@ static void observe_clause(const struct sight *sight)
     seen_if(clause == CLAUSE_IDLE && read32(sight->before + IDLE_AT) == 10000, CLAUSE_IDLE_EDGE);
     seen_if(clause == CLAUSE_SLEEP && read32(sight->before + SLEEP_AT) == 2001, CLAUSE_SLEEP_EDGE);
     seen_if(clause == CLAUSE_COUNT && sight->before[COUNT_AT] == 4, CLAUSE_COUNT_EDGE);
+    seen_if(clause == CLAUSE_TOTAL_BELOW && total_before(sight) + 1 == sight->before[COUNT_AT], CLAUSE_TOTAL_BELOW_EDGE);
+    seen_if(clause == CLAUSE_TOTAL && total_before(sight) == 65536, CLAUSE_TOTAL_EDGE);
 }
 
 /* ---- Phases and waits ---- */
@@ -467,8 +477,22 @@ static void observe_alert(const struct sight *sight)
     seen_if(settings_protected(sight) && !all_ff(sight->settings, SETTINGS_BYTES), SETTINGS_ALERT);
 }
 
+static void observe_total(const struct sight *sight, int message)
+{
+    uint32_t before = total_before(sight), after = read32(sight->record + TRIES_AT);
+    bool wrong = message == 0x02 || message == 0x03, more = wrong && after == before + 1;
+    seen_if(more && before == 0, WRONG_AT_0);
+    seen_if(more && before == 3, WRONG_AT_3);
+    seen_if(more && before == 65534, WRONG_AT_65534);
+    seen_if(more && sight->before[COUNT_AT] == 3, WRONG_LATER);
+    seen_if(more && unlocked_now(sight), WRONG_UNLOCKED);
+    seen_if(wrong && before == 65535 && after == before, TOTAL_STOPS);
+    seen_if(message == 0x00 && sight->before[COUNT_AT] > 0 && after == before, TOTAL_KEPT);
+}
+
 static void observe_unlock(const struct sight *sight, int message)
 {
+    observe_total(sight, message);
     if (message == 0x03)
         observe_alert(sight);
     seen_if(message == 0x00 && all_ff(sight->settings, SETTINGS_BYTES) && !all_ff(sight->fields + PASSWORD_AT, 32),
@@ -615,6 +639,7 @@ static void observe_session(struct sight *sight)
     if (refusal != 0)
         return;
     observe_phase(sight);
+    seen_if(sight->before[COUNT_AT] > 0 && total_before(sight) == sight->before[COUNT_AT], TOTAL_AS_COUNT);
     if (sight->before[PHASE_AT] > PHASE_COMMAND)
         return;
     observe_wait(sight);

@@ -9,6 +9,7 @@ use lib.Seq.{sets}
 use Rattle.octets.specs.Number.{part, numberAt, bytesOf, isMultiple}
 use Rattle.octets.specs.Alike.{allAre, areSame}
 use Rattle.octets.specs.Hex.{hexOf}
+use Rattle.octets.specs.Decimal.{digitsIn, decimalOf}
 use Rattle.checksum.specs.Checksum.{checksumFrom, checksumOf}
 use Rattle.parts.specs.declared.Part.{Part}
 use Rattle.parts.specs.Parts.{mspm0}
@@ -115,6 +116,14 @@ checksum-from-is-one earlier bytes = as-said (checksumFrom earlier bytes)
 
 pub put-hex-is-one : (area : List ℕ) (at : ℕ) (bytes : List ℕ) → OneAnswer (λ area'. area' ≡ sets area at (hexOf bytes))
 put-hex-is-one area at bytes = as-said (sets area at (hexOf bytes))
+
+-- ---- octets: numbers in decimal
+
+pub digits-in-is-one : (number : ℕ) → OneAnswer (λ r. r ≡ digitsIn number)
+digits-in-is-one number = as-said (digitsIn number)
+
+pub put-decimal-is-one : (area : List ℕ) (at number : ℕ) → OneAnswer (λ area'. area' ≡ sets area at (decimalOf number))
+put-decimal-is-one area at number = as-said (sets area at (decimalOf number))
 
 -- ---- parts
 
@@ -355,5 +364,5 @@ write-line-is-one number reply area = line-is-one (writtenOf (lineOf number repl
 
 -- ---- runner_text: the end line
 
-pub write-end-is-one : (phase : Phase) (area : List ℕ) → OneAnswer {A = ℕ × List ℕ} (λ r. written (r .0) (r .1) ≡ writtenOf (endOf phase) area)
-write-end-is-one phase area = line-is-one (writtenOf (endOf phase) area)
+pub write-end-is-one : (phase : Phase) (tries : ℕ) (area : List ℕ) → OneAnswer {A = ℕ × List ℕ} (λ r. written (r .0) (r .1) ≡ writtenOf (endOf phase tries) area)
+write-end-is-one phase tries area = line-is-one (writtenOf (endOf phase tries) area)

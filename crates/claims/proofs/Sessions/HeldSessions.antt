@@ -36,6 +36,7 @@ valid-is-held part sound session mainLent settingsLent valid held =
     record {
       sleep = sleep-held (session .standing .phase) (stands .phase);
       idle = omega (arith, idle);
+      tries = omega (arith, stands .most);
       main = omega (arith, main, sound .main);
       settings = held;
     }

@@ -54,29 +54,33 @@ module _ (session : Session) (held : HeldSession session) where
   unfolding recordOf bytesOf
   idle-back = number-of-bytes 4 (session .standing .idle) (held .idle)
 
-  main-back : numberAt 12 4 (recordOf session) ≡ session .«main_size»
+  tries-back : numberAt 12 4 (recordOf session) ≡ session .standing .tries
+  unfolding recordOf bytesOf
+  tries-back = number-of-bytes 4 (session .standing .tries) (held .tries)
+
+  main-back : numberAt 16 4 (recordOf session) ≡ session .«main_size»
   unfolding recordOf bytesOf
   main-back = number-of-bytes 4 (session .«main_size») (held .main)
 
-  fields-there : drop 16 (recordOf session) ≡ bodiesOf (session .settings)
+  fields-there : drop 20 (recordOf session) ≡ bodiesOf (session .settings)
   unfolding recordOf bytesOf
   fields-there = refl
 
   standing-back : standingIn (recordOf session) ≡ session .standing
   unfolding standingIn recordOf
-  standing-back = rw (sleep-back, idle-back, phase-back (session .standing .phase))
+  standing-back = rw (sleep-back, idle-back, tries-back, phase-back (session .standing .phase))
 
   pub decode-after-encode : sessionIn (recordOf session) ≡ session
   unfolding sessionIn
   decode-after-encode =
       rw (standing-back, main-back, fields-there, take-all 74 (bodiesOf (session .settings)) (omega (arith, fields-size (session .settings) (held .settings))), read-after-made (session .settings) (held .settings))
 
-  record-size : length (recordOf session) ≡ 90
+  record-size : length (recordOf session) ≡ 94
   unfolding recordOf bytesOf
   record-size = omega (arith, fields-size (session .settings) (held .settings))
 
-  unused-there : getD (recordOf session) 69 0 ≡ 0
-  unused-there = sym (getD-drop 16 (recordOf session) 53 0) ∙ ap (λ (l : List ℕ). getD l 53 0) fields-there ∙ made-unused (session .settings) (held .settings)
+  unused-there : getD (recordOf session) 73 0 ≡ 0
+  unused-there = sym (getD-drop 20 (recordOf session) 53 0) ∙ ap (λ (l : List ℕ). getD l 53 0) fields-there ∙ made-unused (session .settings) (held .settings)
 
   pub encoded-is-record : isRecordArea (recordOf session) ≡ true
   unfolding isRecordArea recordOf pick

@@ -18,7 +18,7 @@ use Rattle.session_state.specs.declared.Phase.the-variants.{Command}
 use Rattle.session_state.specs.declared.Standing.{Standing}
 use Rattle.session_state.specs.Phases.{rateIdAtStart, mostSleep, atStart}
 use Rattle.session_state.specs.Waits.{isIdleTooLong, detectIdles, commandIdles, passTime}
-use Rattle.session_judge.specs.Unlocking.{countedUp, alertReset, alerted, triedWrong, tried}
+use Rattle.session_judge.specs.Unlocking.{countedUp, triedOnce, alertReset, alerted, triedWrong, tried}
 use Rattle.session_judge.specs.Hearing.{stirred, heardInDetect, heardInCommand, heardAfter, judgedOf}
 use Rattle.claims.specs.Trials.{connects, unlocks}
 use Rattle.claims.proofs.Trials.Framing.{never-empty, core-there, framed}
@@ -56,7 +56,7 @@ module _ (byte : ℕ) where
 
 -- locked, with so much sleep left, after so many wrong passwords
 abbrev pub stood : ℕ → ℕ → Standing
-stood sleep wrong = record { phase = Command false sleep; idle = 0; wrong = wrong; rate = rateIdAtStart }
+stood sleep wrong = record { phase = Command false sleep; idle = 0; wrong = wrong; rate = rateIdAtStart; tries = wrong }
 
 -- Connect ends detect
 pub connect-connects : (alert : ℕ) (right : Bool) → judgedOf (mspm0 .«last_rate») atStart alert 2000 (connects .packet) right .standing ≡ stood 0 0
@@ -75,13 +75,13 @@ module _ (byte : ℕ) (small : byte < 256) where
 
   -- wrong ones are counted, and make it sleep
   pub first-is-counted : (alert : ℕ) → judgedOf (mspm0 .«last_rate») (stood 0 0) alert 2000 (unlocks byte .packet) false .standing ≡ stood mostSleep 1
-  unfolding tried triedWrong countedUp pick
+  unfolding tried triedWrong countedUp triedOnce pick
   first-is-counted alert = rw (tried-awake 0 alert false)
 
   pub second-is-counted : (alert : ℕ) → judgedOf (mspm0 .«last_rate») (stood mostSleep 1) alert 2000 (unlocks byte .packet) false .standing ≡ stood mostSleep 2
-  unfolding tried triedWrong countedUp pick
+  unfolding tried triedWrong countedUp triedOnce pick
   second-is-counted alert = rw (tried-asleep 1 alert false)
 
   pub third-is-counted : judgedOf (mspm0 .«last_rate») (stood mostSleep 2) alertReset 2000 (unlocks byte .packet) false .standing ≡ stood mostSleep 3
-  unfolding tried triedWrong alerted countedUp pick
+  unfolding tried triedWrong alerted countedUp triedOnce pick
   third-is-counted = rw (tried-asleep 2 alertReset false)

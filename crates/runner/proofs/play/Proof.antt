@@ -1,6 +1,7 @@
 -- `runner::play` meets its contract: the three arrays keep their lengths, and an entry's index is below the count.
 use mathlib.Core.Path.{_≡_}
 use Prim.Native.Nat.{_-_}
+use native.Mathlib.Omega.{arith}
 use borrow.Author.Needs.{needs}
 use lib.ListN.{length}
 use Rattle.runner.proofs.play.Statement.{statement}
@@ -27,7 +28,10 @@ play-spec =
     (λ c. search needs)
     (λ c. search needs)
     (λ c κs. search needs)
-    (λ c. search needs)
+    (λ c.
+    let tested = c .before .before .before .before .before .before .before in
+    let started = tested .before .before .before .before .before .before .before in
+    omega (arith, tested .loop-test .taken, started .fits))
     (λ c. search needs)
     (λ c. search needs)
     (λ c κs. search needs)

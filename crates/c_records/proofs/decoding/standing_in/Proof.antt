@@ -16,4 +16,15 @@ standing-in-spec =
     (λ c κs. search needs)
     (λ c κs. search needs)
     (λ c κs. search needs)
-    (λ c. rw (c .byte-at4 .ensures, c .before .byte-at3 .ensures, c .before .before .number32-at2 .ensures, c .before .before .before .phase-in .ensures, c .before .before .before .before .byte-at2 .ensures, c .before .before .before .before .before .number32-at .ensures, c .before .before .before .before .before .before .byte-at .ensures)))
+    (λ c κs. search needs)
+    (λ c.
+    rw (
+      c .number32-at3 .ensures,
+      c .before .byte-at4 .ensures,
+      c .before .before .byte-at3 .ensures,
+      c .before .before .before .number32-at2 .ensures,
+      c .before .before .before .before .phase-in .ensures,
+      c .before .before .before .before .before .byte-at2 .ensures,
+      c .before .before .before .before .before .before .number32-at .ensures,
+      c .before .before .before .before .before .before .before .byte-at .ensures,
+    )))

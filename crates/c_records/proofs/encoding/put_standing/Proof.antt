@@ -1,4 +1,4 @@
--- `c_records::encoding::put_standing` meets its contract: three stores, one after the other.
+-- `c_records::encoding::put_standing` meets its contract: two stores, one after the other.
 use borrow.Author.Needs.{needs}
 use Rattle.c_records.proofs.RecordLaws.{standing-joined}
 use Rattle.c_records.proofs.encoding.put_standing.Statement.{statement}
@@ -14,7 +14,11 @@ put-standing-spec =
     (λ c κs. search needs)
     (λ c κs. search needs)
     (λ c κs. search needs)
-    (λ c κs. search needs)
     (λ c. search needs)
-    (λ c. rw (c .before .before .put-number2 .ensures, c .before .before .before .before .before .before .put-number .ensures, c .before .before .before .before .before .before .before .sleep-of .ensures, c .before .before .before .before .before .before .before .before .before .before .before .put .ensures, c .before .before .before .before .before .before .before .before .before .before .before .before .before .before .lock-code .ensures, c .before .before .before .before .before .before .before .before .before .before .before .before .before .before .before .phase-code .ensures)
-    (standing-joined (c .before .before .before .before .before .before .before .before .before .before .before .before .before .before .before .before .before .args .area .now) (c .before .before .before .before .before .before .before .before .before .before .before .before .before .before .before .before .before .args .standing))))
+    (λ c.
+    let counted = c .before .before in
+    let front = counted .before .before .before .before .before in
+    let locked = front .before .before .before in
+    let a = locked .before .before .before .args in
+    rw (counted .put-counters .ensures, counted .before .sleep-of .ensures, front .put .ensures, locked .lock-code .ensures, locked .before .phase-code .ensures)
+    (standing-joined (a .area .now) (a .standing))))

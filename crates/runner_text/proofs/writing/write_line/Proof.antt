@@ -7,9 +7,9 @@ use borrow.Author.Tests.{ltb-false}
 use lib.ListN.{length}
 use lib.Seq.{length-sets}
 use Rattle.octets.specs.Choice.{pick}
-use Rattle.runner_text.specs.Digits.{digitsIn}
+use Rattle.octets.specs.Decimal.{digitsIn}
 use Rattle.runner_text.specs.Writing.{textSize, written, writtenOf}
-use Rattle.runner_text.proofs.DigitLaws.{digits-are-few}
+use Rattle.octets.proofs.DecimalLaws.{digits-are-few}
 use Rattle.runner_text.proofs.LineLaws.{length-line, line-made}
 use Rattle.runner_text.proofs.writing.write_line.Statement.{statement}
 use Rattle.runner_text.proofs.writing.write_line.Tie as tie
@@ -64,7 +64,7 @@ write-line-spec =
     tie.close
     (tie.spec
     (λ c κs. search needs)
-    (λ c κs. omega (arith, c .digits-in .ensures, digits-are-few (c .before .before .before .args .number)))
+    (λ c κs. omega (arith, c .digits-in .ensures, digits-are-few 10 (c .before .before .before .args .number)))
     returns
     (λ c κs. search needs)
     put-reply-requires

@@ -8,4 +8,5 @@ judged-wrong-spec =
     tie.close
     (tie.spec
     (λ c κs. search needs)
-    (λ c. rw (c .counted-up .ensures)))
+    (λ c κs. search needs)
+    (λ c. rw (c .tried-once .ensures, c .before .counted-up .ensures)))
