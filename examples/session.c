@@ -8,6 +8,7 @@
 struct board {
     uint8_t main_flash[4096];
     uint8_t settings[BHORELMU_SETTINGS_SIZE];
+    uint8_t window[BHORELMU_WINDOW_SIZE];
     uint8_t record[BHORELMU_RECORD_SIZE];
 };
 
@@ -25,8 +26,10 @@ static int start(struct board *board)
 {
     memset(board->main_flash, 0xFF, sizeof board->main_flash);
     memset(board->settings, 0xFF, sizeof board->settings);
+    memset(board->window, 0, sizeof board->window);
     uint64_t answer = bhorelmu_start(0, board->main_flash, sizeof board->main_flash, board->settings,
-                                     sizeof board->settings, board->record, sizeof board->record);
+                                     sizeof board->settings, board->window, sizeof board->window, board->record,
+                                     sizeof board->record);
     if (bhorelmu_refusal(answer) != 0)
         printf("start: refusal %u, entry %u\n", bhorelmu_refusal(answer), (unsigned)bhorelmu_entry(answer));
     return bhorelmu_refusal(answer) == 0;
@@ -36,7 +39,8 @@ static void ask(struct board *board, const char *name, const uint8_t *packet, si
 {
     uint8_t reply[BHORELMU_REPLY_SIZE];
     uint64_t answer = bhorelmu_call(board->record, sizeof board->record, board->main_flash, sizeof board->main_flash,
-                                    board->settings, sizeof board->settings, 0, packet, size, reply, sizeof reply);
+                                    board->settings, sizeof board->settings, board->window, sizeof board->window, 0,
+                                    packet, size, reply, sizeof reply);
     printf("%s%s:", bhorelmu_burns(answer) ? "burn the fuse, then " : "", name);
     if (bhorelmu_refusal(answer) != 0)
         printf(" refusal %u", bhorelmu_refusal(answer));

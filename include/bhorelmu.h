@@ -8,8 +8,8 @@
 #include <stddef.h>
 #include <stdint.h>
 
-#define BHORELMU_VERSION "2.0.0"
-#define BHORELMU_VERSION_NUMBER 20000 /* 10,000 for each major version, 100 for each minor, 1 for each patch */
+#define BHORELMU_VERSION "3.0.0"
+#define BHORELMU_VERSION_NUMBER 30000 /* 10,000 for each major version, 100 for each minor, 1 for each patch */
 
 /*
  * The device side of one boot loader session, on numbers and byte areas. docs/RECORD.md tells the same at length, and
@@ -21,7 +21,8 @@
  * Duties of the caller:
  *  - each pointer has as many bytes behind it as its size says, and none is NULL where the size is above 0;
  *  - the areas of one call do not overlap;
- *  - each call is lent the record that the call before it left, and both flash areas as that call left them;
+ *  - each call is lent the record that the call before it left, and both flash areas and the window as that call left
+ *    them; no function here clears the window;
  *  - the wait of a refused call is added to the next wait, for the record has not moved;
  *  - a reply is sent at the rate that the record had before the call, and the next packet is received at the rate it
  *    has after it;
@@ -41,6 +42,7 @@ extern "C" {
 #endif
 
 #define BHORELMU_SETTINGS_SIZE 1024u
+#define BHORELMU_WINDOW_SIZE 3456u /* the SRAM window, at 0x20000160 */
 #define BHORELMU_PACKET_LARGEST 1728u /* a longer one is not refused: in the command phase an error answers it */
 #define BHORELMU_REPLY_SIZE 1729u /* a reply area has at least so many bytes */
 #define BHORELMU_RECORD_SIZE 94u
@@ -99,25 +101,28 @@ enum bhorelmu_refusal_number {
     BHORELMU_FILLER_DIFFERS = 7,
     BHORELMU_VALUE_NOT_ALLOWED = 8,
     BHORELMU_REPLY_AREA_TOO_SMALL = 9,
-    BHORELMU_RECORD_NOT_VALID = 10 /* also: a fields area of another size */
+    BHORELMU_RECORD_NOT_VALID = 10, /* also: a fields area of another size */
+    BHORELMU_WINDOW_SIZE_WRONG = 11
 };
 
 /*
- * Begins a session; any fuse but 0 is set. Refusals 1 to 8, then 10 for a record area of another size.
- * Stack: 432 bytes on x86-64, 544 on thumbv6m.
+ * Begins a session; any fuse but 0 is set. Of the window only the size is looked at. Refusals 1 to 3, then 11, then 4 to 8,
+ * then 10 for a record area of another size.
+ * Stack: 416 bytes on x86-64, 544 on thumbv6m.
  */
 uint64_t bhorelmu_start(uint32_t fuse, const uint8_t *main_flash, size_t main_size, const uint8_t *settings,
-                        size_t settings_size, uint8_t *record, size_t record_size);
+                        size_t settings_size, const uint8_t *window, size_t window_size, uint8_t *record,
+                        size_t record_size);
 
 /*
  * Lets `wait` milliseconds pass since the call before, or since start, then takes one packet, perhaps empty, and updates
- * the record and both flash areas. Refusals 9, then 10 for an area that is no record's, for a MAIN of another size than
- * the record says, and for settings that are not 1,024 bytes. Bytes past the reply stay as lent.
- * Stack: 528 bytes on x86-64, 640 on thumbv6m.
+ * the record, both flash areas and the window. Refusals 9, then 11, then 10 for an area that is no record's, for a MAIN of
+ * another size than the record says, and for settings that are not 1,024 bytes. Bytes past the reply stay as lent.
+ * Stack: 544 bytes on x86-64, 656 on thumbv6m.
  */
 uint64_t bhorelmu_call(uint8_t *record, size_t record_size, uint8_t *main_flash, size_t main_size, uint8_t *settings,
-                       size_t settings_size, uint32_t wait, const uint8_t *packet, size_t packet_size, uint8_t *reply,
-                       size_t reply_size);
+                       size_t settings_size, uint8_t *window, size_t window_size, uint32_t wait, const uint8_t *packet,
+                       size_t packet_size, uint8_t *reply, size_t reply_size);
 
 /*
  * Takes the 74 bytes of fields out of a settings image (its bytes 52 to 125), or those of the blank settings out of a

@@ -1,5 +1,5 @@
 /* Checks of the C boundary: each refusal and their order, each byte of a record, sizes one off, what stays untouched,
-   protected places, and the total of wrong passwords. */
+   protected places, the total of wrong passwords, and the window. */
 
 #include "bhorelmu.h"
 
@@ -12,6 +12,7 @@ enum { MAIN_SIZE = 4096, SLACK = 16, FIELDS_AT = 52 };
 struct areas {
     uint8_t main_flash[MAIN_SIZE];
     uint8_t settings[BHORELMU_SETTINGS_SIZE + 1];
+    uint8_t window[BHORELMU_WINDOW_SIZE + 1];
     uint8_t record[BHORELMU_RECORD_SIZE + 1];
     uint8_t reply[BHORELMU_REPLY_SIZE + SLACK];
     uint8_t fields[BHORELMU_FIELDS_SIZE + 1];
@@ -42,28 +43,30 @@ static struct areas blank_board(void)
     return areas;
 }
 
-static uint64_t start(struct areas *areas, uint32_t fuse, size_t main_size, size_t settings_size, size_t record_size)
+struct sizes {
+    size_t record, main_flash, settings, window, reply;
+};
+
+static const struct sizes right_sizes = {BHORELMU_RECORD_SIZE, MAIN_SIZE, BHORELMU_SETTINGS_SIZE, BHORELMU_WINDOW_SIZE,
+                                         BHORELMU_REPLY_SIZE};
+
+static uint64_t start(struct areas *areas, uint32_t fuse, struct sizes sizes)
 {
-    return bhorelmu_start(fuse, areas->main_flash, main_size, areas->settings, settings_size, areas->record, record_size);
+    return bhorelmu_start(fuse, areas->main_flash, sizes.main_flash, areas->settings, sizes.settings, areas->window,
+                          sizes.window, areas->record, sizes.record);
 }
 
 static struct areas started_board(void)
 {
     struct areas areas = blank_board();
-    check("a blank board starts", 0, start(&areas, 0, MAIN_SIZE, BHORELMU_SETTINGS_SIZE, BHORELMU_RECORD_SIZE));
+    check("a blank board starts", 0, start(&areas, 0, right_sizes));
     return areas;
 }
 
-struct sizes {
-    size_t record, main_flash, settings, reply;
-};
-
-static const struct sizes right_sizes = {BHORELMU_RECORD_SIZE, MAIN_SIZE, BHORELMU_SETTINGS_SIZE, BHORELMU_REPLY_SIZE};
-
 static uint64_t call(struct areas *areas, struct sizes sizes, const uint8_t *packet, size_t packet_size)
 {
-    return bhorelmu_call(areas->record, sizes.record, areas->main_flash, sizes.main_flash, areas->settings, sizes.settings, 0,
-                         packet, packet_size, areas->reply, sizes.reply);
+    return bhorelmu_call(areas->record, sizes.record, areas->main_flash, sizes.main_flash, areas->settings, sizes.settings,
+                         areas->window, sizes.window, 0, packet, packet_size, areas->reply, sizes.reply);
 }
 
 /* A call that must be refused, and leave every byte. */
@@ -79,7 +82,7 @@ static void start_refused(const char *what, unsigned number, unsigned entry, str
                           struct sizes sizes)
 {
     struct areas before = *areas;
-    uint64_t answer = start(areas, fuse, sizes.main_flash, sizes.settings, sizes.record);
+    uint64_t answer = start(areas, fuse, sizes);
     check(what, (unsigned long long)number << 56 | entry, answer);
     check("a refused start leaves every byte", 0, (unsigned)memcmp(&before, areas, sizeof before) != 0);
 }
@@ -121,7 +124,7 @@ static void check_start(void)
 {
     struct sizes sizes = right_sizes;
     struct areas areas = blank_board();
-    struct sizes wrong = {BHORELMU_RECORD_SIZE - 1, MAIN_SIZE - 1, BHORELMU_SETTINGS_SIZE - 1, 0};
+    struct sizes wrong = {BHORELMU_RECORD_SIZE - 1, MAIN_SIZE - 1, BHORELMU_SETTINGS_SIZE - 1, BHORELMU_WINDOW_SIZE - 1, 0};
     start_refused("the fuse comes first", BHORELMU_FUSE_SET, 0, &areas, 1, wrong);
     start_refused("a fuse of 256 is set", BHORELMU_FUSE_SET, 0, &areas, 256, sizes);
     start_refused("then the size of MAIN", BHORELMU_MAIN_SIZE_WRONG, 0, &areas, 0, wrong);
@@ -130,6 +133,13 @@ static void check_start(void)
     wrong.settings = BHORELMU_SETTINGS_SIZE + 1;
     start_refused("one byte long", BHORELMU_SETTINGS_SIZE_WRONG, 0, &areas, 0, wrong);
     wrong.settings = BHORELMU_SETTINGS_SIZE;
+    start_refused("then the window", BHORELMU_WINDOW_SIZE_WRONG, 0, &areas, 0, wrong);
+    wrong.window = BHORELMU_WINDOW_SIZE + 1;
+    start_refused("one byte long", BHORELMU_WINDOW_SIZE_WRONG, 0, &areas, 0, wrong);
+    areas.settings[0] = 0;
+    start_refused("before a checksum that differs", BHORELMU_WINDOW_SIZE_WRONG, 0, &areas, 0, wrong);
+    areas.settings[0] = 0xFF;
+    wrong.window = BHORELMU_WINDOW_SIZE;
     start_refused("then the record area, short", BHORELMU_RECORD_NOT_VALID, 0, &areas, 0, wrong);
     wrong.record = BHORELMU_RECORD_SIZE + 1;
     start_refused("or long", BHORELMU_RECORD_NOT_VALID, 0, &areas, 0, wrong);
@@ -163,8 +173,17 @@ static void check_call_sizes(void)
     struct areas areas = started_board();
     struct sizes sizes = right_sizes;
     sizes.reply--;
+    sizes.window--;
     sizes.record--;
-    refused("9 comes before 10", BHORELMU_REPLY_AREA_TOO_SMALL, &areas, sizes);
+    refused("9 comes first", BHORELMU_REPLY_AREA_TOO_SMALL, &areas, sizes);
+    sizes.reply++;
+    refused("11 comes before 10", BHORELMU_WINDOW_SIZE_WRONG, &areas, sizes);
+    sizes = right_sizes;
+    sizes.window++;
+    refused("a window one byte long", BHORELMU_WINDOW_SIZE_WRONG, &areas, sizes);
+    areas.record[BHORELMU_RECORD_PHASE] = BHORELMU_ENDED;
+    refused("after the session's end too", BHORELMU_WINDOW_SIZE_WRONG, &areas, sizes);
+    areas.record[BHORELMU_RECORD_PHASE] = BHORELMU_DETECT;
     sizes = right_sizes;
     sizes.record--;
     refused("a record one byte short", BHORELMU_RECORD_NOT_VALID, &areas, sizes);
@@ -255,7 +274,7 @@ static void check_field_names(void)
     areas.fields[BHORELMU_FIELD_SETTINGS_PROTECTED] = 1;
     areas.fields[BHORELMU_FIELD_BSL_ID] = 7;
     check("settings by name", 0, bhorelmu_settings_write(areas.fields, 74, areas.settings, 1024));
-    check("start with them", 0, start(&areas, 0, MAIN_SIZE, 1024, BHORELMU_RECORD_SIZE));
+    check("start with them", 0, start(&areas, 0, right_sizes));
     check("in the record", 0, (unsigned)memcmp(areas.record + BHORELMU_RECORD_FIELDS, areas.fields, 74) != 0);
     call(&areas, right_sizes, connect_packet, sizeof connect_packet);
     check("Info", 33, call(&areas, right_sizes, info_packet, sizeof info_packet));
@@ -307,7 +326,7 @@ static struct areas protected_board(void)
     areas.fields[BHORELMU_FIELD_PROTECTION] = 1 << 1;
     check("protected settings", 0, bhorelmu_settings_write(areas.fields, 74, areas.settings, 1024));
     memset(areas.main_flash, 0x5A, sizeof areas.main_flash);
-    check("start with them", 0, start(&areas, 0, MAIN_SIZE, 1024, BHORELMU_RECORD_SIZE));
+    check("start with them", 0, start(&areas, 0, right_sizes));
     unlock(&areas);
     return areas;
 }
@@ -382,7 +401,7 @@ static void check_written_words(void)
 {
     static const uint8_t first_word[13] = {0x20}, second_word[13] = {0x20, 0x08}, mass_erase[] = {0x15};
     struct areas areas = blank_board();
-    check("start of a blank board", 0, start(&areas, 0, MAIN_SIZE, 1024, BHORELMU_RECORD_SIZE));
+    check("start of a blank board", 0, start(&areas, 0, right_sizes));
     unlock(&areas);
     check("Program of a blank word", 0x00, told(&areas, first_word, sizeof first_word));
     check("it is done", 0, areas.main_flash[0] | areas.main_flash[7]);
@@ -462,8 +481,41 @@ static void check_tries(void)
         tried(&areas, 0x00);
         check("the total stops", 65535, total_of(&areas));
     }
-    check("start gives", 0, start(&areas, 0, MAIN_SIZE, 1024, BHORELMU_RECORD_SIZE));
+    check("start gives", 0, start(&areas, 0, right_sizes));
     check("a total of 0", 0, total_of(&areas));
+}
+
+/* The window takes any bytes at any address, though the settings are protected; what crosses its edges, a Verify and every erase
+   leave it. It holds 0x5A, so that a store shows that is done by AND. */
+static void check_window(void)
+{
+    static const struct {
+        const char *what;
+        unsigned message;
+        size_t length;
+        uint8_t core[9];
+    } tries[] = {
+        {"Program of three bytes at 0x20000161", 0x00, 8, {0x20, 0x61, 0x01, 0x00, 0x20, 0xA5, 0xFF, 0x0F}},
+        {"0x24 of its last byte", NO_MESSAGE, 6, {0x24, 0xDF, 0x0E, 0x00, 0x20, 0xA7}},
+        {"Program from before it", 0x05, 7, {0x20, 0x5F, 0x01, 0x00, 0x20}},
+        {"Program past its end", 0x05, 7, {0x20, 0xDF, 0x0E, 0x00, 0x20}},
+        {"0x24 past its end", NO_MESSAGE, 7, {0x24, 0xDF, 0x0E, 0x00, 0x20}},
+        {"Verify of 1,023 bytes", 0x0B, 9, {0x26, 0x60, 0x01, 0x00, 0x20, 0xFF, 0x03}},
+        {"Verify of 1,024 bytes", 0x05, 9, {0x26, 0x60, 0x01, 0x00, 0x20, 0x00, 0x04}},
+        {"Verify of all of it", 0x05, 9, {0x26, 0x60, 0x01, 0x00, 0x20, 0x80, 0x0D}},
+        {"Read back, readout off", 0x09, 9, {0x29, 0x60, 0x01, 0x00, 0x20, 0x04}},
+        {"Range erase of it", 0x05, 9, {0x23, 0x60, 0x01, 0x00, 0x20, 0xDF, 0x0E, 0x00, 0x20}},
+        {"Mass erase", 0x00, 1, {0x15}},
+        {"Factory reset", 0x00, 1, {0x30}},
+    };
+    struct areas areas = protected_board();
+    uint8_t wanted[sizeof areas.window];
+    memset(wanted, 0x5A, sizeof wanted);
+    memcpy(wanted + 1, "\xA5\xFF\x0F", 3);
+    wanted[BHORELMU_WINDOW_SIZE - 1] = 0xA7;
+    for (size_t i = 0; i < sizeof tries / sizeof *tries; i++)
+        check(tries[i].what, tries[i].message, told(&areas, tries[i].core, tries[i].length));
+    check("the window holds what was stored, and else what it held", 0, (unsigned)memcmp(wanted, areas.window, sizeof wanted) != 0);
 }
 
 static void check_rates(void)
@@ -489,6 +541,7 @@ int main(void)
     check_written_words();
     check_totals();
     check_tries();
+    check_window();
     check_rates();
     printf("%u checks, %u failed\n", checks, failures);
     return failures != 0;

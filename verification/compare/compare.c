@@ -55,6 +55,7 @@ static bool seed_agrees(uint64_t seed)
     script.seed = seed;
     clear_sides(&sides, seed);
     step_agrees(&sides, choose_main(&dice, main_size));
+    step_agrees(&sides, choose_window(&dice));
     step_agrees(&sides, choose_settings(&dice, main_size));
     for (int calls = 0; calls < CALLS_A_SEED && script.count < SCRIPT_ROOM;) {
         if (!step_agrees(&sides, choose_step(&dice, main_size, &sides.model)))

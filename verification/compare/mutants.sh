@@ -85,7 +85,7 @@ Mass erase refused for a protected sector@s/^    case MASS_ERASE:$/&\n        if
 Factory reset refused for a protected sector@/^static enum message factory_reset/,/^}/s/^    erase_everything(loader);/    if (range_protected(loader, 0, loader->main_size - 1)) return RANGE_INVALID;\n&/
 alert erases nothing where a sector is protected@s/^        erase_everything(loader);/        if (!range_protected(loader, 0, loader->main_size - 1)) erase_everything(loader);/
 Read back refuses a protected sector@/^static size_t read_back/,/^}/s/ || place == NULL)/ || place == NULL || range_protected(loader, get32(core + 1), get32(core + 1) + count - 1))/
-Verify refuses a protected sector@/^static size_t verify/,/^}/s/(place == NULL)/(place == NULL || range_protected(loader, get32(core + 1), get32(core + 1) + count - 1))/
+Verify refuses a protected sector@/^static size_t verify/,/^}/s/(place == NULL ||/(place == NULL || range_protected(loader, get32(core + 1), get32(core + 1) + count - 1) ||/
 erase ignores protected sectors@s/        if (!sector_protected(loader, sector))/        if (1)/
 erase ignores protected settings@s/^    if (!loader->fields\[SETTINGS_PROTECTED\])/    if (1)/
 protection bits from the other end@s/>> sector % 8 & 1/>> (7 - sector % 8) \& 1/
@@ -170,6 +170,32 @@ standby checked before 10@s/^    if (settings_size != SETTINGS_SIZE || main_size
 fuse taken by its low byte@s/if (fuse != 0)/if ((uint8_t)fuse != 0)/
 rate id cut to a byte@s/id >= 1 && id <= RATE_LARGEST ? rates\[id - 1\] : 0/(uint8_t)id >= 1 \&\& (uint8_t)id <= RATE_LARGEST ? rates[(uint8_t)id - 1] : 0/
 record keeps a start's old lock@s/memset(record, 0, AT_FIELDS)/memset(record + AT_SLEEP, 0, 16); record[AT_WRONG_COUNT] = 0/
+window a byte early@s/WINDOW_START 0x20000160u/WINDOW_START 0x2000015Fu/
+window a byte longer@s/count <= WINDOW_START + WINDOW_SIZE - first/count <= WINDOW_START + WINDOW_SIZE + 1 - first/
+window without its last byte@s/address - WINDOW_START < WINDOW_SIZE/address - WINDOW_START < WINDOW_SIZE - 1/
+Program of the window by AND@s/^        memcpy(place, core + 5, count);/        for (uint32_t i = 0; i < count; i++) place[i] \&= core[5 + i];/
+Program of the window wants an aligned address@s/^    if (in_window(first)) {/    if (in_window(first) \&\& first % PROGRAM_UNIT == 0) {/
+Program of the window wants an aligned size@s/^    if (in_window(first)) {/    if (in_window(first) \&\& count % PROGRAM_UNIT == 0) {/
+Program of the window refused where the settings are protected@s/^    if (in_window(first)) {/    if (in_window(first) \&\& range_protected(loader, first, first)) return RANGE_INVALID;\n&/
+Program of the window refused where it holds something@s/^    if (in_window(first)) {/    if (in_window(first) \&\& !all_ones(place, count)) return FLASH_ERROR;\n&/
+0x24 leaves the window@s/^        memcpy(place, core + 5, count);/        if (core[0] == PROGRAM) memcpy(place, core + 5, count);/
+Verify sums the window@s/place == NULL || in_window(get32(core + 1))/place == NULL/
+Verify of the window tells 05 for 0B@s/    if (count < VERIFY_LEAST)/    if (count < VERIFY_LEAST \&\& !in_window(get32(core + 1)))/
+Read back of the window taken from MAIN@s/^    reply\[0\] = MEMORY;/    if (in_window(get32(core + 1))) place = loader->main_flash;\n&/
+Read back of the window at any readout@s/    if (get16(loader->fields + READOUT) != READOUT_ON)/    if (get16(loader->fields + READOUT) != READOUT_ON \&\& !in_window(get32(core + 1)))/
+Mass erase clears the window@s/^    case MASS_ERASE:$/&\n        memset(loader->window, 0xFF, WINDOW_SIZE);/
+Factory reset clears the window@/^static enum message factory_reset/,/^}/s/^    erase_everything(loader);/    memset(loader->window, 0, WINDOW_SIZE);\n&/
+alert clears the window@s/^        erase_everything(loader);/        memset(loader->window, 0xFF, WINDOW_SIZE), erase_everything(loader);/
+Range erase of the window answers 00@s/start > end || end >= loader->main_size/start > end || (end >= loader->main_size \&\& !(in_window(start) \&\& in_window(end)))/;s/^    if (range_protected(loader, start, end))/    if (in_window(start)) return DONE;\n&/
+11 not looked at in a call@s/^    if (window_size != WINDOW_SIZE)/    if (0)/
+window above 3,456 bytes taken@s/^    if (window_size != WINDOW_SIZE)/    if (window_size < WINDOW_SIZE)/
+11 before 9@s/^    if (reply_size < REPLY_AREA)/    if (window_size != WINDOW_SIZE) return refused(11);\n&/
+10 before 11@s/^    if (window_size != WINDOW_SIZE)/    if (record_size != RECORD_SIZE || !is_record(record)) return refused(10);\n&/
+standby before 11@s/^    if (window_size != WINDOW_SIZE)/    if (record_size == RECORD_SIZE \&\& is_record(record) \&\& settings_size == SETTINGS_SIZE \&\& main_size == get32(record + AT_MAIN_SIZE) \&\& record[AT_PHASE] > COMMAND) return 0;\n&/
+11 not looked at by start@s/settings_size == SETTINGS_SIZE && window_size != WINDOW_SIZE/0/
+11 before 3 at start@s/settings_size == SETTINGS_SIZE && window_size != WINDOW_SIZE/window_size != WINDOW_SIZE/
+11 after 8 at start@s/settings_size == SETTINGS_SIZE && window_size != WINDOW_SIZE/0/;/^uint64_t model_start/,/^}/s/^    if (record_size != RECORD_SIZE)/    if (window_size != WINDOW_SIZE) return refused(11);\n&/
+window size cut to 16 bits@s/^    if (window_size != WINDOW_SIZE)/    if ((uint16_t)window_size != WINDOW_SIZE)/
 MAIN size cut to 32 bits@s/static bool main_size_allowed(size_t size)/static bool main_size_allowed(uint32_t size)/
 record size cut to 16 bits@s/record_size != RECORD_SIZE/(uint16_t)record_size != RECORD_SIZE/
 settings size cut to 16 bits@s/^    if (size != SETTINGS_SIZE)/    if ((uint16_t)size != SETTINGS_SIZE)/

@@ -9,10 +9,11 @@
 /* Bytes around each area, compared as well, that show a write outside it. */
 enum { GUARD = 64, SHIFTS = 8 };
 
-static const size_t rooms[AREAS] = {MAIN_ROOM, SETTINGS_ROOM, RECORD_ROOM, REPLY_ROOM, FIELDS_ROOM, PACKET_ROOM};
-static const char *const area_names[AREAS] = {"MAIN", "settings", "record", "reply", "fields", "packet"};
+static const size_t rooms[AREAS] = {MAIN_ROOM,  SETTINGS_ROOM, WINDOW_ROOM, RECORD_ROOM,
+                                    REPLY_ROOM, FIELDS_ROOM,   PACKET_ROOM};
+static const char *const area_names[AREAS] = {"MAIN", "settings", "window", "record", "reply", "fields", "packet"};
 
-enum { ALL_ROOMS = MAIN_ROOM + SETTINGS_ROOM + RECORD_ROOM + REPLY_ROOM + FIELDS_ROOM + PACKET_ROOM };
+enum { ALL_ROOMS = MAIN_ROOM + SETTINGS_ROOM + WINDOW_ROOM + RECORD_ROOM + REPLY_ROOM + FIELDS_ROOM + PACKET_ROOM };
 enum { STORE = ALL_ROOMS + AREAS * (2 * GUARD + SHIFTS) };
 
 static uint8_t product_store[STORE], model_store[STORE];
@@ -78,6 +79,8 @@ static void prepare(struct sides *sides, const struct step *step)
         sides->main_used = step->main_size;
     if (step->kind == SET_MAIN)
         set_main(sides, step);
+    if (step->kind == SET_WINDOW)
+        set_noise(sides, AREA_WINDOW, step->fill);
     if (step->kind == SET_SETTINGS)
         set_bytes(sides, AREA_SETTINGS, step->data, step->data_size);
     if (step->kind == SET_RECORD)
@@ -102,12 +105,14 @@ static void perform(struct side *side, const struct loader_functions *loader, co
     switch (step->kind) {
     case CALL_START:
         side->answer = loader->start(step->number, area[AREA_MAIN], step->main_size, area[AREA_SETTINGS],
-                                     step->settings_size, area[AREA_RECORD], step->record_size);
+                                     step->settings_size, area[AREA_WINDOW], step->window_size, area[AREA_RECORD],
+                                     step->record_size);
         break;
     case CALL_SESSION:
         side->answer = loader->call(area[AREA_RECORD], step->record_size, area[AREA_MAIN], step->main_size,
-                                    area[AREA_SETTINGS], step->settings_size, step->number, area[AREA_PACKET],
-                                    step->data_size, area[AREA_REPLY], step->reply_size);
+                                    area[AREA_SETTINGS], step->settings_size, area[AREA_WINDOW], step->window_size,
+                                    step->number, area[AREA_PACKET], step->data_size, area[AREA_REPLY],
+                                    step->reply_size);
         break;
     case CALL_READ:
         side->answer =

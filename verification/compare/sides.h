@@ -5,10 +5,10 @@
 
 /* The two loaders side by side, each with areas of its own that hold the same bytes before every call. */
 
-enum area { AREA_MAIN, AREA_SETTINGS, AREA_RECORD, AREA_REPLY, AREA_FIELDS, AREA_PACKET, AREAS };
+enum area { AREA_MAIN, AREA_SETTINGS, AREA_WINDOW, AREA_RECORD, AREA_REPLY, AREA_FIELDS, AREA_PACKET, AREAS };
 
-enum { MAIN_ROOM = 67 * 1024, SETTINGS_ROOM = 2048, RECORD_ROOM = 256, REPLY_ROOM = 4096, FIELDS_ROOM = 256 };
-enum { PACKET_ROOM = 65536 + 64 };
+enum { MAIN_ROOM = 67 * 1024, SETTINGS_ROOM = 2048, WINDOW_ROOM = 4096, RECORD_ROOM = 256, REPLY_ROOM = 4096 };
+enum { FIELDS_ROOM = 256, PACKET_ROOM = 65536 + 64 };
 
 struct side {
     uint8_t *area[AREAS];

@@ -11,13 +11,15 @@
 /* The front of the one wide area is all that is touched, so that no memory need stand behind the rest. */
 enum { FRONT = 8192, MAIN_SIZE = 4096 };
 
-enum { WIDE_MAIN, WIDE_SETTINGS, WIDE_RECORD, WIDE_PACKET, WIDE_REPLY, WIDE_FIELDS, WIDE_KINDS };
+enum { WIDE_MAIN, WIDE_SETTINGS, WIDE_WINDOW, WIDE_RECORD, WIDE_PACKET, WIDE_REPLY, WIDE_FIELDS, WIDE_KINDS };
 
-static const char *const names[WIDE_KINDS] = {"MAIN", "settings", "record", "packet", "reply", "fields"};
-static const size_t sizes[WIDE_KINDS] = {MAIN_SIZE, SETTINGS_BYTES, RECORD_BYTES, 8, REPLY_LEAST, FIELDS_BYTES};
+static const char *const names[WIDE_KINDS] = {"MAIN", "settings", "window", "record", "packet", "reply", "fields"};
+static const size_t sizes[WIDE_KINDS] = {MAIN_SIZE, SETTINGS_BYTES, WINDOW_BYTES, RECORD_BYTES,
+                                         8,         REPLY_LEAST,    FIELDS_BYTES};
 
 /* What a size that is cut becomes: the right size, or for a reply area, which may be larger, too small a one. */
-static const size_t cut_sizes[WIDE_KINDS] = {MAIN_SIZE, SETTINGS_BYTES, RECORD_BYTES, 8, REPLY_LEAST - 1, FIELDS_BYTES};
+static const size_t cut_sizes[WIDE_KINDS] = {MAIN_SIZE, SETTINGS_BYTES,  WINDOW_BYTES, RECORD_BYTES,
+                                             8,         REPLY_LEAST - 1, FIELDS_BYTES};
 
 struct lent {
     uint8_t *area[WIDE_KINDS];
@@ -28,9 +30,10 @@ struct lent {
 
 static void call_all(const struct loader_functions *loader, const struct lent *lent, uint64_t *answers)
 {
-    answers[0] = loader->call(LENT(lent, WIDE_RECORD), LENT(lent, WIDE_MAIN), LENT(lent, WIDE_SETTINGS), 0,
-                              LENT(lent, WIDE_PACKET), LENT(lent, WIDE_REPLY));
-    answers[1] = loader->start(0, LENT(lent, WIDE_MAIN), LENT(lent, WIDE_SETTINGS), LENT(lent, WIDE_RECORD));
+    answers[0] = loader->call(LENT(lent, WIDE_RECORD), LENT(lent, WIDE_MAIN), LENT(lent, WIDE_SETTINGS),
+                              LENT(lent, WIDE_WINDOW), 0, LENT(lent, WIDE_PACKET), LENT(lent, WIDE_REPLY));
+    answers[1] = loader->start(0, LENT(lent, WIDE_MAIN), LENT(lent, WIDE_SETTINGS), LENT(lent, WIDE_WINDOW),
+                               LENT(lent, WIDE_RECORD));
     answers[2] = loader->settings_read(LENT(lent, WIDE_SETTINGS), LENT(lent, WIDE_FIELDS));
     answers[3] = loader->settings_write(LENT(lent, WIDE_FIELDS), LENT(lent, WIDE_SETTINGS));
 }
@@ -51,7 +54,7 @@ static void lay_out(struct lent *lent, int wide, size_t more, uint8_t *wide_area
     frame((const uint8_t[]){0x19}, 1, lent->area[WIDE_PACKET]);
     memcpy(lent->area[WIDE_FIELDS] + IDS_AT, "\1\0\0\0\1\0\0", 8);
     model_start(0, lent->area[WIDE_MAIN], MAIN_SIZE, lent->area[WIDE_SETTINGS], SETTINGS_BYTES,
-                lent->area[WIDE_RECORD], RECORD_BYTES);
+                lent->area[WIDE_WINDOW], WINDOW_BYTES, lent->area[WIDE_RECORD], RECORD_BYTES);
     lent->area[WIDE_RECORD][PHASE_AT] = PHASE_COMMAND;
 }
 

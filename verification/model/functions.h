@@ -6,9 +6,10 @@
 
 /* A loader as a table of its functions, so that the library and the model can be called by the same code. */
 struct loader_functions {
-    uint64_t (*start)(uint32_t, const uint8_t *, size_t, const uint8_t *, size_t, uint8_t *, size_t);
-    uint64_t (*call)(uint8_t *, size_t, uint8_t *, size_t, uint8_t *, size_t, uint32_t, const uint8_t *, size_t,
-                     uint8_t *, size_t);
+    uint64_t (*start)(uint32_t, const uint8_t *, size_t, const uint8_t *, size_t, const uint8_t *, size_t, uint8_t *,
+                      size_t);
+    uint64_t (*call)(uint8_t *, size_t, uint8_t *, size_t, uint8_t *, size_t, uint8_t *, size_t, uint32_t,
+                     const uint8_t *, size_t, uint8_t *, size_t);
     uint64_t (*settings_read)(const uint8_t *, size_t, uint8_t *, size_t);
     uint64_t (*settings_write)(const uint8_t *, size_t, uint8_t *, size_t);
     uint32_t (*rate)(uint32_t);

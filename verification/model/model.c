@@ -8,8 +8,10 @@
 /* ---- Sizes ---- */
 
 #define SETTINGS_START 0x41C00000u
+#define WINDOW_START 0x20000160u
 
 enum { SECTOR_SIZE = 1024, MAIN_LARGEST = 65536, SETTINGS_SIZE = 1024, CORE_LARGEST = 1721, REPLY_AREA = 1729 };
+enum { WINDOW_SIZE = 3456 };
 enum { FRAME_SIZE = 7 }; /* header, length (2) and checksum (4) around a core */
 
 static uint16_t get16(const uint8_t *from)
@@ -211,10 +213,10 @@ struct loader {
     bool unlocked, burn;
     uint32_t sleep, idle, tries, main_size;
     const uint8_t *fields;
-    uint8_t *main_flash, *settings;
+    uint8_t *main_flash, *settings, *window;
 };
 
-static struct loader decode(const uint8_t *record, uint8_t *main_flash, uint8_t *settings)
+static struct loader decode(const uint8_t *record, uint8_t *main_flash, uint8_t *settings, uint8_t *window)
 {
     return (struct loader){.phase = record[AT_PHASE],
                            .unlocked = record[AT_LOCK] == 1,
@@ -226,7 +228,8 @@ static struct loader decode(const uint8_t *record, uint8_t *main_flash, uint8_t 
                            .fields = record + AT_FIELDS,
                            .main_flash = main_flash,
                            .main_size = get32(record + AT_MAIN_SIZE),
-                           .settings = settings};
+                           .settings = settings,
+                           .window = window};
 }
 
 static void encode(const struct loader *loader, uint8_t *record)
@@ -369,18 +372,25 @@ static void erase_everything(struct loader *loader)
         memset(loader->settings, 0xFF, SETTINGS_SIZE);
 }
 
+static bool in_window(uint32_t address)
+{
+    return address >= WINDOW_START && address - WINDOW_START < WINDOW_SIZE;
+}
+
 /* Where a range lies that is wholly in one region, else NULL. Nothing is added to `first`, so that nothing wraps. */
 static uint8_t *locate(const struct loader *loader, uint32_t first, uint32_t count)
 {
     if (first < loader->main_size)
         return count <= loader->main_size - first ? loader->main_flash + first : NULL;
+    if (in_window(first))
+        return count <= WINDOW_START + WINDOW_SIZE - first ? loader->window + (first - WINDOW_START) : NULL;
     uint32_t offset = first - SETTINGS_START; /* large where first lies below */
     if (offset < SETTINGS_SIZE && count <= SETTINGS_SIZE - offset)
         return loader->settings + offset;
     return NULL;
 }
 
-/* Whether a range has a protected place; its first and its last address lie in one region. */
+/* Whether a range has a protected place; its first and its last address lie in one region of flash. */
 static bool range_protected(const struct loader *loader, uint32_t first, uint32_t last)
 {
     if (first >= loader->main_size)
@@ -398,6 +408,10 @@ static enum message program(struct loader *loader, const uint8_t *core, size_t l
     uint8_t *place = locate(loader, first, count);
     if (place == NULL)
         return RANGE_INVALID;
+    if (in_window(first)) {
+        memcpy(place, core + 5, count);
+        return DONE;
+    }
     if (first % PROGRAM_UNIT != 0 || count % PROGRAM_UNIT != 0)
         return NOT_ALIGNED;
     if (range_protected(loader, first, first + count - 1))
@@ -514,7 +528,7 @@ static size_t verify(const struct loader *loader, const uint8_t *core, uint8_t *
     const uint8_t *place = locate(loader, get32(core + 1), count);
     if (count < VERIFY_LEAST)
         return send_message(reply, VERIFY_TOO_SHORT);
-    if (place == NULL)
+    if (place == NULL || in_window(get32(core + 1)))
         return send_message(reply, RANGE_INVALID);
     reply[0] = VERIFY_CHECKSUM;
     put32(reply + 1, checksum(place, count));
@@ -619,14 +633,18 @@ static size_t serve(struct loader *loader, const uint8_t *packet, size_t size, u
 /* ---- The calls ---- */
 
 uint64_t model_start(uint32_t fuse, const uint8_t *main_flash, size_t main_size, const uint8_t *settings,
-                     size_t settings_size, uint8_t *record, size_t record_size)
+                     size_t settings_size, const uint8_t *window, size_t window_size, uint8_t *record,
+                     size_t record_size)
 {
     const uint8_t *fields = NULL;
     (void)main_flash;
+    (void)window;
     if (fuse != 0)
         return refused(1);
     if (!main_size_allowed(main_size))
         return refused(2);
+    if (settings_size == SETTINGS_SIZE && window_size != WINDOW_SIZE)
+        return refused(11);
     uint64_t answer = judge_image(settings, settings_size, &fields);
     if (answer != 0)
         return answer;
@@ -641,18 +659,20 @@ uint64_t model_start(uint32_t fuse, const uint8_t *main_flash, size_t main_size,
 }
 
 uint64_t model_call(uint8_t *record, size_t record_size, uint8_t *main_flash, size_t main_size, uint8_t *settings,
-                    size_t settings_size, uint32_t wait, const uint8_t *packet, size_t packet_size, uint8_t *reply,
-                    size_t reply_size)
+                    size_t settings_size, uint8_t *window, size_t window_size, uint32_t wait, const uint8_t *packet,
+                    size_t packet_size, uint8_t *reply, size_t reply_size)
 {
     if (reply_size < REPLY_AREA)
         return refused(9);
+    if (window_size != WINDOW_SIZE)
+        return refused(11);
     if (record_size != RECORD_SIZE || !is_record(record))
         return refused(10);
     if (settings_size != SETTINGS_SIZE || main_size != get32(record + AT_MAIN_SIZE))
         return refused(10);
     if (record[AT_PHASE] > COMMAND)
         return 0;
-    struct loader loader = decode(record, main_flash, settings);
+    struct loader loader = decode(record, main_flash, settings, window);
     size_t length = 0;
     if (pass_time(&loader, wait))
         length = serve(&loader, packet, packet_size, reply);

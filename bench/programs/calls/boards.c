@@ -47,7 +47,8 @@ static void fill_record(struct board *board, size_t main_size, enum state state)
 {
     static const uint8_t phases[] = {[UNLOCKED] = 1, [LOCKED] = 1, [TWO_WRONG] = 1, [IN_DETECT] = 0,
                                      [ASLEEP] = 1, [ENDED] = 3, [NOT_VALID] = 1};
-    model_start(0, board->main_flash, main_size, board->settings, SETTINGS_SIZE, board->record, RECORD_SIZE);
+    model_start(0, board->main_flash, main_size, board->settings, SETTINGS_SIZE, board->window, WINDOW_SIZE, board->record,
+                RECORD_SIZE);
     board->record[AT_PHASE] = phases[state];
     board->record[AT_LOCK] = state == UNLOCKED;
     if (state == TWO_WRONG)
@@ -101,10 +102,10 @@ static void fill_packet(const struct bench_case *bench_case, struct board *board
     board->packet_size = length + FRAME_SIZE;
 }
 
-/* The places of a Program are blank, but for the last byte where it is to be told that they are not. */
+/* The places of a Program are blank, but for the last byte where it is to be told that they are not. The window takes bytes over any. */
 static void blank_places(const struct bench_case *bench_case, struct board *board)
 {
-    if (bench_case->body != DATA)
+    if (bench_case->body != DATA || (bench_case->first >= WINDOW_AT && bench_case->first < SETTINGS_AT))
         return;
     uint8_t *places = bench_case->first == SETTINGS_AT ? board->settings : board->main_flash + bench_case->first;
     memset(places, 0xFF, bench_case->second);

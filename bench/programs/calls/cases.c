@@ -42,6 +42,9 @@ const struct bench_case bench_cases[] = {
     {"Program", "1,712", 1712, .code = 0x20, .body = DATA, .first = 2048, .second = 1712, .answer = MESSAGE_REPLY},
     {"Program, settings", "1,024", 1024, .code = 0x20, .body = DATA, .first = SETTINGS_AT, .second = 1024,
      .answer = MESSAGE_REPLY},
+    {"Program, window", "8", 8, .code = 0x20, .body = DATA, .first = WINDOW_AT + 1, .second = 8, .answer = MESSAGE_REPLY},
+    {"Program, window", "1,716", 1716, .code = 0x20, .body = DATA, .first = WINDOW_AT + 1, .second = 1716,
+     .answer = MESSAGE_REPLY},
     {"Program without answer", "8", 8, .code = 0x24, .body = DATA, .first = 2048, .second = 8, .answer = 1},
     {"Program without answer", "1,712", 1712, .code = 0x24, .body = DATA, .first = 2048, .second = 1712, .answer = 1},
     {"Read back", "1", 1, .code = 0x29, .body = TWO_NUMBERS, .first = 777, .second = 1, .answer = READ_BACK_FRAME + 1},
@@ -54,6 +57,8 @@ const struct bench_case bench_cases[] = {
      .answer = READ_BACK_FRAME + 1024},
     {"Read back", "1,720", 1720, .code = 0x29, .body = TWO_NUMBERS, .first = 777, .second = 1720,
      .answer = READ_BACK_FRAME + 1720},
+    {"Read back, window", "8", 8, .code = 0x29, .body = TWO_NUMBERS, .first = WINDOW_AT + 1, .second = 8,
+     .answer = READ_BACK_FRAME + 8},
     {"Verify", "1,024", 1 * KIB, .code = 0x26, .body = TWO_NUMBERS, .second = 1 * KIB, .answer = SUM_REPLY},
     {"Verify", "4,096", 4 * KIB, true, .code = 0x26, .body = TWO_NUMBERS, .second = 4 * KIB, .answer = SUM_REPLY},
     {"Verify", "16,384", 16 * KIB, true, .code = 0x26, .body = TWO_NUMBERS, .second = 16 * KIB, .answer = SUM_REPLY},
@@ -75,6 +80,7 @@ const struct bench_case bench_cases[] = {
     {"Empty packet", "", .answer = 0},
     {"Session ended", "", .state = ENDED, .code = 0x12, .answer = 0},
     {"Refused: 9", "reply area too small", .reply_size = REPLY_SIZE - 1, .code = 0x12, .answer = REFUSED(9)},
+    {"Refused: 11", "window too small", .window_size = WINDOW_SIZE - 1, .code = 0x12, .answer = REFUSED(11)},
     {"Refused: 10", "record not valid", .state = NOT_VALID, .code = 0x12, .answer = REFUSED(10)},
 
     {"Start of a session", "blank", SETTINGS_SIZE, .function = START, .preset = BLANK},
@@ -97,6 +103,11 @@ struct bench_case wrong_at(uint32_t place)
 size_t main_size_of(const struct bench_case *bench_case)
 {
     return bench_case->main_size == 0 ? MAIN_MOST : bench_case->main_size;
+}
+
+size_t window_size_of(const struct bench_case *bench_case)
+{
+    return bench_case->window_size == 0 ? WINDOW_SIZE : bench_case->window_size;
 }
 
 size_t reply_size_of(const struct bench_case *bench_case)

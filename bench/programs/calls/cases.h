@@ -7,10 +7,11 @@
 
 /* What is timed: one call of one function, on a board and with a packet that are made new for it. */
 
-enum { MAIN_MOST = 65536, SETTINGS_SIZE = 1024, RECORD_SIZE = 94, FIELDS_SIZE = 74 };
+enum { MAIN_MOST = 65536, SETTINGS_SIZE = 1024, WINDOW_SIZE = 3456, RECORD_SIZE = 94, FIELDS_SIZE = 74 };
 enum { REPLY_SIZE = 1729, PACKET_MOST = 1728, PASSWORD_SIZE = 32, DETAILED_ERROR_REPLY = 12 };
 
 #define SETTINGS_AT 0x41C00000u
+#define WINDOW_AT 0x20000160u
 
 /* The first of each is what most cases have. */
 enum function { CALL, START, SETTINGS_READ, SETTINGS_WRITE, RATE };
@@ -27,7 +28,7 @@ struct bench_case {
     enum function function;
     enum state state;
     enum preset preset;
-    size_t main_size, reply_size; /* 0: the largest MAIN, and a reply area as large as it must be */
+    size_t main_size, window_size, reply_size; /* 0: the largest MAIN, the whole window, a reply area as large as it must be */
 
     uint8_t code; /* of the command; 0: an empty packet */
     enum body body;
@@ -45,6 +46,7 @@ extern const size_t bench_case_count;
 struct bench_case wrong_at(uint32_t place);
 
 size_t main_size_of(const struct bench_case *bench_case);
+size_t window_size_of(const struct bench_case *bench_case);
 size_t reply_size_of(const struct bench_case *bench_case);
 
 /* Each area begins as a cache line does, so that the sides do not differ in where theirs lie. */
@@ -53,6 +55,7 @@ size_t reply_size_of(const struct bench_case *bench_case);
 struct board {
     AREA main_flash[MAIN_MOST];
     AREA settings[SETTINGS_SIZE];
+    AREA window[WINDOW_SIZE];
     AREA fields[FIELDS_SIZE];
     AREA record[RECORD_SIZE];
     AREA packet[PACKET_MOST];

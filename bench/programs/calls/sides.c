@@ -5,18 +5,20 @@
 #include <string.h>
 
 static uint64_t no_start(uint32_t fuse, const uint8_t *main_flash, size_t main_size, const uint8_t *settings,
-                         size_t settings_size, uint8_t *record, size_t record_size)
+                         size_t settings_size, const uint8_t *window, size_t window_size, uint8_t *record,
+                         size_t record_size)
 {
-    (void)fuse, (void)main_flash, (void)main_size, (void)settings, (void)settings_size, (void)record, (void)record_size;
+    (void)fuse, (void)main_flash, (void)main_size, (void)settings, (void)settings_size, (void)window, (void)window_size;
+    (void)record, (void)record_size;
     return 0;
 }
 
 static uint64_t no_call(uint8_t *record, size_t record_size, uint8_t *main_flash, size_t main_size, uint8_t *settings,
-                        size_t settings_size, uint32_t wait, const uint8_t *packet, size_t packet_size, uint8_t *reply,
-                        size_t reply_size)
+                        size_t settings_size, uint8_t *window, size_t window_size, uint32_t wait, const uint8_t *packet,
+                        size_t packet_size, uint8_t *reply, size_t reply_size)
 {
     (void)record, (void)record_size, (void)main_flash, (void)main_size, (void)settings, (void)settings_size;
-    (void)wait, (void)packet, (void)packet_size, (void)reply, (void)reply_size;
+    (void)window, (void)window_size, (void)wait, (void)packet, (void)packet_size, (void)reply, (void)reply_size;
     return 0;
 }
 
@@ -80,10 +82,11 @@ static uint64_t call_once(struct side *side, uint8_t *record)
     switch (bench_case->function) {
     case CALL:
         return functions->call(record, RECORD_SIZE, now->main_flash, main_size_of(bench_case), now->settings,
-                               SETTINGS_SIZE, 0, now->packet, now->packet_size, side->reply, reply_size_of(bench_case));
+                               SETTINGS_SIZE, now->window, window_size_of(bench_case), 0, now->packet, now->packet_size,
+                               side->reply, reply_size_of(bench_case));
     case START:
-        return functions->start(0, now->main_flash, main_size_of(bench_case), now->settings, SETTINGS_SIZE, record,
-                                RECORD_SIZE);
+        return functions->start(0, now->main_flash, main_size_of(bench_case), now->settings, SETTINGS_SIZE, now->window,
+                                WINDOW_SIZE, record, RECORD_SIZE);
     case SETTINGS_READ:
         return functions->settings_read(now->settings, SETTINGS_SIZE, now->fields, FIELDS_SIZE);
     case SETTINGS_WRITE:

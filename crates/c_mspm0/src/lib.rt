@@ -9,10 +9,16 @@ use parts::Mspm0;
 
 // Starts a session, and stores its record. Any fuse but 0 is set.
 #[no_mangle]
-pub extern "C" fn bhorelmu_start(fuse: u32, main: &[u8], settings: &[u8], area: &mut [u8]) -> u64
-    ensures { λ r. ⌜ stored r (now (area .exit)) ≡ startFromC mspm0 fuse (now (main .entry)) (now (settings .entry)) (now (area .entry)) ⌝ }
+pub extern "C" fn bhorelmu_start(
+    fuse: u32,
+    main: &[u8],
+    settings: &[u8],
+    window: &[u8],
+    area: &mut [u8],
+) -> u64
+    ensures { λ r. ⌜ stored r (now (area .exit)) ≡ startFromC mspm0 fuse (now (main .entry)) (now (settings .entry)) (now (window .entry)) (now (area .entry)) ⌝ }
 {
-    c_records::start_record(Mspm0::part(), fuse, main, settings, area)
+    c_records::start_record(Mspm0::part(), fuse, main, settings, window, area)
 }
 
 // A call of the session whose record the area holds.
@@ -21,13 +27,23 @@ pub extern "C" fn bhorelmu_call(
     area: &mut [u8],
     main: &mut [u8],
     settings: &mut [u8],
+    window: &mut [u8],
     wait: u32,
     packet: &[u8],
     reply: &mut [u8],
 ) -> u64
-    ensures { λ r. ⌜ called r (now (area .exit)) (memory (now (main .exit)) (now (settings .exit))) (now (reply .exit)) ≡ callFromC mspm0 (now (area .entry)) (memory (now (main .entry)) (now (settings .entry))) wait (now (packet .entry)) (now (reply .entry)) ⌝ }
+    ensures { λ r. ⌜ called r (now (area .exit)) (memory (now (main .exit)) (now (settings .exit)) (now (window .exit))) (now (reply .exit)) ≡ callFromC mspm0 (now (area .entry)) (memory (now (main .entry)) (now (settings .entry)) (now (window .entry))) wait (now (packet .entry)) (now (reply .entry)) ⌝ }
 {
-    c_records::call_record(Mspm0::part(), area, main, settings, wait, packet, reply)
+    c_records::call_record(
+        Mspm0::part(),
+        area,
+        main,
+        settings,
+        window,
+        wait,
+        packet,
+        reply,
+    )
 }
 
 // Reads a settings image, and stores its fields.

@@ -26,16 +26,16 @@ rateFromC part id = rateOf (part .«last_rate») id
 -- ---- start
 
 -- any fuse but 0 is set
-abbrev pub startByFuse : Part → ℕ → List ℕ → List ℕ → StartTold
-startByFuse part fuse main settings = startOf part (not (eqb fuse 0)) main settings
+abbrev pub startByFuse : Part → ℕ → List ℕ → List ℕ → List ℕ → StartTold
+startByFuse part fuse main settings window = startOf part (not (eqb fuse 0)) main settings window
 
-abbrev pub startFromC : Part → ℕ → List ℕ → List ℕ → List ℕ → Stored
-startFromC part fuse main settings area =
-    storedBy (startByFuse part fuse main settings .answer) recordSize (recordOf (startByFuse part fuse main settings .session)) area
+abbrev pub startFromC : Part → ℕ → List ℕ → List ℕ → List ℕ → List ℕ → Stored
+startFromC part fuse main settings window area =
+    storedBy (startByFuse part fuse main settings window .answer) recordSize (recordOf (startByFuse part fuse main settings window .session)) area
 
 -- ---- a call
 
--- all that a call leaves: its answer, the record area, both images, the reply area
+-- all that a call leaves: its answer, the record area, both images and the window, the reply area
 pub record Called : Type 0 where
   pub answer : ℕ
   pub area : List ℕ
@@ -56,9 +56,11 @@ calledFrom after left = called (after .answer) (after .area) (left .memory) (lef
 abbrev pub calledAfter : List ℕ → Left → Called
 calledAfter area left = calledFrom (storedAfter (left .answer) (recordOf (left .session)) area) left
 
--- "9 reply area below 1,729 bytes; 10 record not valid": first what only bytes can break, and then as the session's call
+-- "9 reply area below 1,729 bytes; 10 record not valid", of that first what only bytes can break, and then as the session's call; T-05: "11, window not
+-- 3,456 bytes, .. after 9 in a call"
 unfoldable pub callFromC : Part → List ℕ → Memory → ℕ → List ℕ → List ℕ → Called
 callFromC part area before wait packet reply =
     pick (ltb (length reply) replyLimit) (called (refusal 9) area before reply)
+    (pick (not (eqb (length (before .window)) (part .«window_size»))) (called (refusal 11) area before reply)
     (pick (not (isRecordArea area)) (called (refusal 10) area before reply)
-    (calledAfter area (callOf part (sessionIn area) before wait packet reply)))
+    (calledAfter area (callOf part (sessionIn area) before wait packet reply))))

@@ -34,6 +34,8 @@ pub(crate) const REPLY_AREA_TOO_SMALL: u64 = 9 * REFUSAL_UNIT;
 
 pub(crate) const RECORD_NOT_VALID: u64 = 10 * REFUSAL_UNIT;
 
+pub(crate) const WINDOW_SIZE_WRONG: u64 = 11 * REFUSAL_UNIT;
+
 // A session record as bytes: phase, lock, wrong count and rate id, then sleep, idle and the total of wrong passwords, which is all that a call
 // can change, then the size of MAIN and the settings' fields.
 pub(crate) const RECORD_SIZE: usize = 94;

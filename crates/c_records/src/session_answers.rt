@@ -6,6 +6,7 @@ ghost use Rattle.session.specs.StartAnswers.{startNumbered};
 use crate::BURN_UNIT;
 use crate::FUSE_SET;
 use crate::MAIN_SIZE_WRONG;
+use crate::WINDOW_SIZE_WRONG;
 use crate::numbers;
 use session::StartAnswer;
 
@@ -17,6 +18,7 @@ pub(crate) fn of_start(answer: StartAnswer) -> u64
         StartAnswer::Started => 0,
         StartAnswer::FuseSet => FUSE_SET,
         StartAnswer::MainSizeWrong => MAIN_SIZE_WRONG,
+        StartAnswer::WindowSizeWrong => WINDOW_SIZE_WRONG,
         StartAnswer::ImageRefused(refusal) => numbers::of_refusal(refusal),
     }
 }

@@ -11,6 +11,7 @@ ghost use Rattle.c_records.specs.Boundary.{storedAfter, startFromC, call
 use crate::RECORD_NOT_VALID;
 use crate::RECORD_SIZE;
 use crate::REPLY_AREA_TOO_SMALL;
+use crate::WINDOW_SIZE_WRONG;
 use crate::decoding;
 use crate::encoding;
 use crate::session_answers;
@@ -37,10 +38,20 @@ fn store_record(started: Started, area: &mut [u8]) -> u64
 }
 
 // Starts a session on a board of this part, and stores its record. Any fuse but 0 is set.
-pub fn start_record(part: Part, fuse: u32, main: &[u8], settings: &[u8], area: &mut [u8]) -> u64
-    ensures { λ r. ⌜ stored r (now (area .exit)) ≡ startFromC part fuse (now (main .entry)) (now (settings .entry)) (now (area .entry)) ⌝ }
+pub fn start_record(
+    part: Part,
+    fuse: u32,
+    main: &[u8],
+    settings: &[u8],
+    window: &[u8],
+    area: &mut [u8],
+) -> u64
+    ensures { λ r. ⌜ stored r (now (area .exit)) ≡ startFromC part fuse (now (main .entry)) (now (settings .entry)) (now (window .entry)) (now (area .entry)) ⌝ }
 {
-    store_record(session::start(part, fuse != 0, main, settings), area)
+    store_record(
+        session::start(part, fuse != 0, main, settings, window),
+        area,
+    )
 }
 
 // Stores the record of a call that was not refused, and makes one number of its answer. Only how the session stands can have changed.
@@ -56,6 +67,7 @@ fn store_called(call: Called, area: &mut [u8]) -> u64
             session_answers::done(burn, size)
         }
         CallAnswer::ReplyAreaTooSmall => REPLY_AREA_TOO_SMALL,
+        CallAnswer::WindowSizeWrong => WINDOW_SIZE_WRONG,
         CallAnswer::RecordNotValid => RECORD_NOT_VALID,
     }
 }
@@ -66,14 +78,18 @@ pub fn call_record(
     area: &mut [u8],
     main: &mut [u8],
     settings: &mut [u8],
+    window: &mut [u8],
     wait: u32,
     packet: &[u8],
     reply: &mut [u8],
 ) -> u64
-    ensures { λ r. ⌜ called r (now (area .exit)) (memory (now (main .exit)) (now (settings .exit))) (now (reply .exit)) ≡ callFromC part (now (area .entry)) (memory (now (main .entry)) (now (settings .entry))) wait (now (packet .entry)) (now (reply .entry)) ⌝ }
+    ensures { λ r. ⌜ called r (now (area .exit)) (memory (now (main .exit)) (now (settings .exit)) (now (window .exit))) (now (reply .exit)) ≡ callFromC part (now (area .entry)) (memory (now (main .entry)) (now (settings .entry)) (now (window .entry))) wait (now (packet .entry)) (now (reply .entry)) ⌝ }
 {
     if reply.len() < codes::REPLY_LIMIT {
         return REPLY_AREA_TOO_SMALL;
+    }
+    if window.len() != part.window_size as usize {
+        return WINDOW_SIZE_WRONG;
     }
     if !decoding::is_record_area(area) {
         return RECORD_NOT_VALID;
@@ -83,6 +99,7 @@ pub fn call_record(
         decoding::session_in(area),
         main,
         settings,
+        window,
         wait,
         packet,
         reply,

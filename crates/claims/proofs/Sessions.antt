@@ -23,3 +23,5 @@ pub mod VerifyRule
 pub mod ProtectedRule
 -- WrittenRule: Program is refused exactly where a word is written already, and leaves its data where none is.
 pub mod WrittenRule
+-- WindowRule: what Program, Read back, Verify and the erases do in the SRAM window.
+pub mod WindowRule

@@ -25,9 +25,13 @@ sectorSize = mspm0 .«sector_size»
 abbrev pub mainSize : ℕ
 mainSize = 2048
 
+-- the window holds one byte all through
+unfoldable pub windowOf : ℕ → List ℕ
+windowOf byte = replicate (mspm0 .«window_size») byte
+
 -- 01, Settings image: "An image of 1,024 bytes 0xFF is blank": its alert is 0, nothing
 unfoldable pub blankBoard : Images
-blankBoard = memory (replicate mainSize 0xFF) (replicate imageSize 0xFF)
+blankBoard = memory (replicate mainSize 0xFF) (replicate imageSize 0xFF) (windowOf 0xFF)
 
 -- the settings of a blank image, but for the alert, the version pointer and the passwords, of which each is one byte all through; and where
 -- the guard is 1 the first sector and the settings are protected
@@ -47,9 +51,9 @@ chosen alert guard pointer byte = record {
   «reset_password» = replicate 16 byte;
 }
 
--- a board whose settings were written; in MAIN there are four bytes 0x55, and then one byte all through
+-- a board whose settings were written; in MAIN there are four bytes 0x55, and then one byte all through, as in its window
 unfoldable pub writtenBoard : Settings → ℕ → Images
-writtenBoard settings byte = memory (replicate 4 0x55 ++ replicate 2044 byte) (imageOf form1 settings)
+writtenBoard settings byte = memory (replicate 4 0x55 ++ replicate 2044 byte) (imageOf form1 settings) (windowOf byte)
 
 -- the alert does nothing, and the version pointer is not good
 abbrev pub quietBoard : ℕ → ℕ → Images
@@ -65,20 +69,21 @@ strictBoard password main = resetBoard 0 password main
 abbrev pub guardedBoard : ℕ → ℕ → Images
 guardedBoard password main = resetBoard 1 password main
 
--- both passwords and both images differ
+-- both passwords, both images and the windows differ
 pub record Differ (one other : Images) : Type 0 where
   pub password : settingsOf one .password ≡ settingsOf other .password → ⊥
   pub resetPassword : settingsOf one .«reset_password» ≡ settingsOf other .«reset_password» → ⊥
   pub main : one .main ≡ other .main → ⊥
   pub settings : one .settings ≡ other .settings → ⊥
+  pub window : one .window ≡ other .window → ⊥
 
--- the second sector is 0xFF; the first one and the settings are as they were
+-- the second sector is 0xFF; the first one, the settings and the window are as they were
 abbrev pub secondFF : Images → Images
-secondFF board = memory (take sectorSize (board .main) ++ replicate sectorSize 0xFF) (board .settings)
+secondFF board = memory (take sectorSize (board .main) ++ replicate sectorSize 0xFF) (board .settings) (board .window)
 
--- every byte of both images is 0xFF
+-- every byte of both images is 0xFF; the window is as it was
 abbrev pub allFF : Images → Images
-allFF board = memory (replicate (length (board .main)) 0xFF) (replicate (length (board .settings)) 0xFF)
+allFF board = memory (replicate (length (board .main)) 0xFF) (replicate (length (board .settings)) 0xFF) (board .window)
 
 -- ---- packets
 

@@ -27,11 +27,11 @@ use Rattle.session.specs.Calling.{callOf}
 
 -- ---- the boards
 
--- a board as it stands before its session: its two images
+-- a board as it stands before its session: its two images, and its SRAM window
 abbrev pub Images : Type 0
 Images = Memory
 
--- a board in its session: the record, and the images as they are now
+-- a board in its session: the record, and the images and the window as they are now
 pub record Running : Type 0 where
   pub session : Session
   pub memory : Memory
@@ -41,14 +41,14 @@ abbrev pub settingsOf : Images → Settings
 settingsOf images = readOf form1 (images .settings) .settings
 
 abbrev pub started : Part → Images → Running
-started part images = record { session = startOf part false (images .main) (images .settings) .session; memory = images }
+started part images = record { session = startOf part false (images .main) (images .settings) (images .window) .session; memory = images }
 
 -- "take two boards of equal flash size that both start and whose good settings agree except in the two passwords. Their flash may differ
--- anywhere but in the four published version bytes."
+-- anywhere but in the four published version bytes." T-05: the window may differ between the boards, so nothing is asked of it.
 pub record AlikeBoards (part : Part) (one other : Images) : Type 0 where
   -- "that both start", the fuse not being set
-  pub oneStarts : startOf part false (one .main) (one .settings) .answer .number ≡ 0
-  pub otherStarts : startOf part false (other .main) (other .settings) .answer .number ≡ 0
+  pub oneStarts : startOf part false (one .main) (one .settings) (one .window) .answer .number ≡ 0
+  pub otherStarts : startOf part false (other .main) (other .settings) (other .window) .answer .number ≡ 0
   -- "of equal flash size": that of MAIN; the settings flash of every board that starts has 1,024 bytes
   pub size : length (one .main) ≡ length (other .main)
   -- "whose good settings agree except in the two passwords": as the reader gives them
@@ -84,7 +84,7 @@ pub record WithoutPassword (part : Part) (one other : Images) (sending : Sending
 abbrev pub called : Part → Running → Sending → List ℕ → Left
 called part board sending area = callOf part (board .session) (board .memory) (sending .wait) (sending .packet) area
 
--- "let nothing else write images or record": the next call finds what this one left
+-- "let nothing else write images or record", nor the window: the next call finds what this one left
 abbrev pub next : Left → Running
 next left = record { session = left .session; memory = left .memory }
 
@@ -103,12 +103,14 @@ AsClaimed sectorSize struck protection atStart left =
     (place : ℕ) → place < length atStart
     → getD left place 0 ≡ pick (pick struck (mayChange sectorSize protection place) false) 0xFF (getD atStart place 0)
 
--- both images of a board, after so many wrong passwords
+-- both images of a board, and its window, after so many wrong passwords
 pub record Flash (part : Part) (board : Images) (wrong : ℕ) (left : Memory) : Type 0 where
   pub mainSize : length (left .main) ≡ length (board .main)
   pub main : AsClaimed (part .«sector_size») (isStruck (settingsOf board .shown .alert) wrong) (settingsOf board .protection) (board .main) (left .main)
   pub settingsSize : length (left .settings) ≡ length (board .settings)
   pub settings : AsClaimed (part .«sector_size») (isStruck (settingsOf board .shown .alert) wrong) (settingsProtection (settingsOf board .shown)) (board .settings) (left .settings)
+  -- T-05: the window stays unchanged
+  pub window : left .window ≡ board .window
 
 -- all that two calls show at the port, how the sessions stand then, and what is left of flash
 pub record Alike (part : Part) (one other : Images) (oneLeft otherLeft : Left) : Type 0 where

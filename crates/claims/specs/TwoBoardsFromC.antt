@@ -14,14 +14,14 @@ use Rattle.claims.specs.TwoBoards.{Images, Sending, WithoutPassword, Fla
 
 -- ---- the boards
 
--- a board in its session, from C: its record area, and the images as they are now
+-- a board in its session, from C: its record area, and the images and the window as they are now
 pub record RunningFromC : Type 0 where
   pub area : List ℕ
   pub memory : Memory
 
 -- start on a board whose fuse is not set
 abbrev pub startedOn : Part → Images → List ℕ → Stored
-startedOn part images area = startFromC part 0 (images .main) (images .settings) area
+startedOn part images area = startFromC part 0 (images .main) (images .settings) (images .window) area
 
 abbrev pub startedFromC : Part → Images → List ℕ → RunningFromC
 startedFromC part images area = record { area = startedOn part images area .area; memory = images }

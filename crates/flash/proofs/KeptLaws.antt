@@ -5,7 +5,7 @@ use mathlib.Core.List.{List}
 use mathlib.Core.Logic.{by-cases}
 use Prim.Native.Nat.{ℕ, _+_, _-_, _*_, _/_, _%_, _≤_, _<_}
 use native.Mathlib.Decide.{decLt}
-use native.Mathlib.Nat.{div-mul-le-self, le-div-iff-mul-le, mul-div-cancel}
+use native.Mathlib.Nat.{add-mul, one-mul, div-add-mod', div-mul-le-self, le-div-iff-mul-le, mod-lt, mul-div-cancel}
 use native.Mathlib.Omega.{arith}
 use lib.Dec.{eqb}
 use borrow.Author.Tests.{eq-eqb}
@@ -16,6 +16,12 @@ use Rattle.flash.specs.Protection.{isProtected, mayChange, isKept, first
 use Rattle.flash.proofs.ProtectionLaws.{open-place, protected-place, one-sector}
 
 -- ---- found sector by sector
+
+-- where the sector after a place's begins
+pub next-sector : (sectorSize place : ℕ) → 0 < sectorSize → (place / sectorSize + 1) * sectorSize ≡ place + (sectorSize - place % sectorSize)
+next-sector sectorSize place sized =
+    let whole : (place / sectorSize + 1) * sectorSize ≡ place / sectorSize * sectorSize + sectorSize = add-mul (place / sectorSize) 1 sectorSize ∙ ap (λ (n : ℕ). place / sectorSize * sectorSize + n) (one-mul sectorSize) in
+    omega (arith, whole, div-add-mod' place sectorSize, mod-lt place sized)
 
 module _ (sectorSize : ℕ) (protection : List ℕ) (end : ℕ) where
   pub kept-here : (place : ℕ) → place < end → isProtected protection (place / sectorSize) ≡ true → firstKept sectorSize protection place end ≡ place
@@ -39,6 +45,22 @@ module _ (sectorSize : ℕ) (protection : List ℕ) (end : ℕ) where
   kept-none place h =
       let n : end - place ≡ 0 = omega arith in
       ap (searchFrom (λ place. place) end (isKept sectorSize protection) place) n ∙ search-of-none _ end (isKept sectorSize protection) place
+
+  -- all places up to the next sector, which may begin past the end
+  pub kept-next : (place : ℕ) → 0 < sectorSize → place < end → isProtected protection (place / sectorSize) ≡ false
+      → firstKept sectorSize protection ((place / sectorSize + 1) * sectorSize) end ≡ firstKept sectorSize protection place end
+  kept-next place sized before e =
+      let next : (place / sectorSize + 1) * sectorSize ≡ place + (sectorSize - place % sectorSize) = next-sector sectorSize place sized in
+      by-cases (decLt end ((place / sectorSize + 1) * sectorSize))
+      (λ past.
+      let upto : place + (end - place) ≡ end = omega arith in
+      kept-none _ (omega arith)
+      ∙ sym (kept-none end (omega arith))
+      ∙ ap (λ (from : ℕ). firstKept sectorSize protection from end) (sym upto)
+      ∙ kept-later (end - place) place sized (omega arith) (omega (arith, past, next)) e)
+      (λ n.
+      ap (λ (from : ℕ). firstKept sectorSize protection from end) next
+      ∙ kept-later (sectorSize - place % sectorSize) place sized (omega (arith, n, next)) (omega (arith, mod-lt place sized)) e)
 
 -- of sectors with no bytes every place is protected
 pub kept-empty-sectors : (sectorSize : ℕ) (protection : List ℕ) (at end : ℕ) → sectorSize ≡ 0 → at < end → firstKept sectorSize protection at end ≡ at

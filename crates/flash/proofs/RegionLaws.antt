@@ -15,8 +15,8 @@ use Rattle.octets.proofs.Searching.{pick-true, pick-false, pick-both, by-test}
 use Rattle.parts.specs.declared.Part.{Part}
 use Rattle.flash.specs.declared.Place.{Place}
 use Rattle.flash.specs.declared.Region.{Region}
-use Rattle.flash.specs.declared.Region.the-variants.{Main, Settings, Outside}
-use Rattle.flash.specs.Regions.{mainStart, isMainSize, liesWithin, placeFrom, placeIn, nowhere, placeOf}
+use Rattle.flash.specs.declared.Region.the-variants.{Main, Settings, Window, Outside}
+use Rattle.flash.specs.Regions.{mainStart, isMainSize, liesWithin, placeFrom, placeIn, windowPlace, nowhere, placeOf}
 use Rattle.flash.specs.Memory.{Memory, bytesIn}
 use Rattle.flash.specs.Protection.{isProtected}
 use Rattle.flash.proofs.KeptLaws.{kept-alike}
@@ -55,7 +55,8 @@ module _ (start size first count : ℕ) where
 abbrev number : Region → ℕ
 number Main = 0
 number Settings = 1
-number Outside = 2
+number Window = 2
+number Outside = 3
 
 module _ (part : Part) (mainSize : ℕ) (protection : List ℕ) (settingsBit first count : ℕ) where
   -- the place that the check answers
@@ -68,18 +69,24 @@ module _ (part : Part) (mainSize : ℕ) (protection : List ℕ) (settingsBit fir
   abbrev in-settings : Place
   in-settings = placeIn Settings (part .«sector_size») (settingsBit ∷ []) (part .«settings_start») first count
 
-  -- the three answers, one after the other
+  abbrev in-window : Place
+  in-window = windowPlace (part .«window_start») first
+
+  -- the four answers, one after the other
   by-answer : {C : Type 0}
       → (liesWithin mainStart mainSize first count ≡ true → told-of ≡ in-main → C)
       → (liesWithin (part .«settings_start») (part .«settings_size») first count ≡ true → told-of ≡ in-settings → C)
+      → (liesWithin (part .«window_start») (part .«window_size») first count ≡ true → told-of ≡ in-window → C)
       → (told-of ≡ nowhere → C) → C
   unfolding placeOf pick
-  by-answer inMain inSettings outside =
+  by-answer inMain inSettings inWindow outside =
       by-test (liesWithin mainStart mainSize first count)
       (λ m. inMain m (rw m))
       (λ n. by-test (liesWithin (part .«settings_start») (part .«settings_size») first count)
       (λ s. inSettings s (rw (n, s)))
-      (λ o. outside (rw (n, o))))
+      (λ o. by-test (liesWithin (part .«window_start») (part .«window_size») first count)
+      (λ w. inWindow w (rw (n, o, w)))
+      (λ v. outside (rw (n, o, v)))))
 
   -- another answer than the one told
   other : {C : Type 0} (told : Region) (place : Place) → told-of .region ≡ told → told-of ≡ place
@@ -92,6 +99,7 @@ module _ (part : Part) (mainSize : ℕ) (protection : List ℕ) (settingsBit fir
       by-answer
       (λ m e. let b = within-bounds mainStart mainSize first count m in (omega arith, ap (λ (q : Place). q .offset) e ∙ sub-zero first))
       (λ s e. other Main _ r e (λ q. omega arith))
+      (λ w e. other Main _ r e (λ q. omega arith))
       (λ e. other Main _ r e (λ q. omega arith))
 
   pub located-in-settings : told-of .region ≡ Settings
@@ -104,13 +112,28 @@ module _ (part : Part) (mainSize : ℕ) (protection : List ℕ) (settingsBit fir
       let b = within-bounds (part .«settings_start») (part .«settings_size») first count s in
       let o : told-of .offset ≡ first - part .«settings_start» = ap (λ (q : Place). q .offset) e in
       (omega arith, omega arith))
+      (λ w e. other Settings _ r e (λ q. omega arith))
       (λ e. other Settings _ r e (λ q. omega arith))
+
+  pub located-in-window : told-of .region ≡ Window
+      → (first ≡ part .«window_start» + told-of .offset)
+      × (told-of .offset + count ≤ part .«window_size»)
+  located-in-window r =
+      by-answer
+      (λ m e. other Window _ r e (λ q. omega arith))
+      (λ s e. other Window _ r e (λ q. omega arith))
+      (λ w e.
+      let b = within-bounds (part .«window_start») (part .«window_size») first count w in
+      let o : told-of .offset ≡ first - part .«window_start» = ap (λ (q : Place). q .offset) e in
+      (omega arith, omega arith))
+      (λ e. other Window _ r e (λ q. omega arith))
 
   pub located-outside : told-of .region ≡ Outside → told-of .offset ≡ 0
   located-outside r =
       by-answer
       (λ m e. other Outside _ r e (λ q. omega arith))
       (λ s e. other Outside _ r e (λ q. omega arith))
+      (λ w e. other Outside _ r e (λ q. omega arith))
       (λ e. ap (λ (q : Place). q .offset) e)
 
   -- and back: what lies in a region is found there, and what lies in none is outside
@@ -125,10 +148,21 @@ module _ (part : Part) (mainSize : ℕ) (protection : List ℕ) (settingsBit fir
       pick-false _ _ (range-past mainStart mainSize first count (omega arith))
       ∙ pick-true _ _ (range-within (part .«settings_start») (part .«settings_size») first count l u)
 
-  pub outside-is-told : mainSize < first + count → liesWithin (part .«settings_start») (part .«settings_size») first count ≡ false
-      → told-of ≡ nowhere
+  pub window-is-located : mainSize < first + count → liesWithin (part .«settings_start») (part .«settings_size») first count ≡ false
+      → part .«window_start» ≤ first → first + count ≤ part .«window_start» + part .«window_size» → told-of ≡ in-window
   unfolding placeOf
-  outside-is-told n o = pick-false _ _ (range-past mainStart mainSize first count (omega arith)) ∙ pick-false _ _ o
+  window-is-located n o l u =
+      pick-false _ _ (range-past mainStart mainSize first count (omega arith)) ∙ pick-false _ _ o
+      ∙ pick-true _ _ (range-within (part .«window_start») (part .«window_size») first count l u)
+
+  pub outside-is-told : mainSize < first + count → liesWithin (part .«settings_start») (part .«settings_size») first count ≡ false
+      → liesWithin (part .«window_start») (part .«window_size») first count ≡ false → told-of ≡ nowhere
+  unfolding placeOf
+  outside-is-told n o v = pick-false _ _ (range-past mainStart mainSize first count (omega arith)) ∙ pick-false _ _ o ∙ pick-false _ _ v
+
+  -- a part whose window has 0 bytes has none: no range of a byte or more lies there
+  pub no-window : part .«window_size» ≡ 0 → 0 < count → told-of .region ≡ Window → ⊥
+  no-window none some r = let b = located-in-window r in omega (arith, b .1, none, some)
 
 -- protection bytes that agree on the sectors of MAIN give every range the same place
 pub places-alike : (part : Part) (mainSize : ℕ) (p q : List ℕ) (settingsBit first count : ℕ)
@@ -148,19 +182,22 @@ places-alike part mainSize p q settingsBit first count alike =
 
 -- a range that is larger than every region lies in none
 pub too-large-is-outside : (part : Part) (mainSize : ℕ) (protection : List ℕ) (settingsBit first count : ℕ) → mainSize < count
-    → part .«settings_size» < count → placeOf part mainSize protection settingsBit first count ≡ nowhere
-too-large-is-outside part mainSize protection settingsBit first count large larger =
+    → part .«settings_size» < count → part .«window_size» < count → placeOf part mainSize protection settingsBit first count ≡ nowhere
+too-large-is-outside part mainSize protection settingsBit first count large larger largest =
     outside-is-told part mainSize protection settingsBit first count (omega arith)
-    (by-cases (decLt first (part .«settings_start»))
-    (λ h. range-before (part .«settings_start») (part .«settings_size») first count h)
-    (λ n. range-past (part .«settings_start») (part .«settings_size») first count (omega arith)))
+    (too-large (part .«settings_start») (part .«settings_size») larger) (too-large (part .«window_start») (part .«window_size») largest)
+  where
+    too-large : (start size : ℕ) → size < count → liesWithin start size first count ≡ false
+    too-large start size h = by-cases (decLt first start) (range-before start size first count) (λ n. range-past start size first count (omega arith))
 
 -- 01, Marked cases, sides of limits: "Address 0xFFFFFFF8 with 16 bytes is 05 and never wraps."
 pub last-addresses-are-outside : (part : Part) (mainSize : ℕ) (protection : List ℕ) (settingsBit : ℕ) → mainSize ≤ part .«most_main»
-    → part .«most_main» ≤ 0xFFFFFFFF → part .«settings_start» + part .«settings_size» ≤ 0xFFFFFFFF
+    → part .«most_main» ≤ 0xFFFFFFFF → part .«settings_start» + part .«settings_size» ≤ 0xFFFFFFFF → part .«window_start» + part .«window_size» ≤ 0xFFFFFFFF
     → placeOf part mainSize protection settingsBit 0xFFFFFFF8 16 ≡ nowhere
-last-addresses-are-outside part mainSize protection settingsBit h main settings =
-    outside-is-told part mainSize protection settingsBit 0xFFFFFFF8 16 (omega arith) (range-past (part .«settings_start») (part .«settings_size») 0xFFFFFFF8 16 (omega arith))
+last-addresses-are-outside part mainSize protection settingsBit h main settings window =
+    outside-is-told part mainSize protection settingsBit 0xFFFFFFF8 16 (omega arith)
+    (range-past (part .«settings_start») (part .«settings_size») 0xFFFFFFF8 16 (omega arith))
+    (range-past (part .«window_start») (part .«window_size») 0xFFFFFFF8 16 (omega arith))
 
 -- ---- the bytes
 
@@ -168,4 +205,5 @@ last-addresses-are-outside part mainSize protection settingsBit h main settings 
 pub most-asked : (offset size : ℕ) (memory : Memory) (region : Region) → length (bytesIn offset size memory region) ≤ size
 most-asked offset size memory Main = simp length-take (omega arith)
 most-asked offset size memory Settings = simp length-take (omega arith)
+most-asked offset size memory Window = simp length-take (omega arith)
 most-asked offset size memory Outside = omega arith

@@ -5,7 +5,7 @@ pub mod Places
 pub mod Protection
 -- Regions: the sizes of MAIN, which region holds a range, and whether a place of it is protected.
 pub mod Regions
--- Memory: the two images, and the bytes of a range.
+-- Memory: the two images and the SRAM window, and the bytes of a range.
 pub mod Memory
 -- Erasing: what an erase leaves.
 pub mod Erasing

@@ -1,4 +1,5 @@
 -- 01, The loader and its edges: "MAIN flash starts at 0x00000000 .. Settings flash starts at 0x41C00000 and has 1,024 bytes."
+-- T-05: "Add 3,456 bytes at 0x20000160 as a third region"
 use Prim.Native.Nat.{ℕ, _+_, _-_}
 use mathlib.Core.Bool.{Bool, false}
 use mathlib.Core.List.{List, [], _∷_}
@@ -8,7 +9,7 @@ use Rattle.octets.specs.Number.{isMultiple}
 use Rattle.parts.specs.declared.Part.{Part}
 use Rattle.flash.specs.declared.Place.{Place}
 use Rattle.flash.specs.declared.Region.{Region}
-use Rattle.flash.specs.declared.Region.the-variants.{Main, Settings, Outside}
+use Rattle.flash.specs.declared.Region.the-variants.{Main, Settings, Window, Outside}
 use Rattle.flash.specs.Protection.{firstKept}
 
 -- "MAIN flash starts at 0x00000000"
@@ -36,7 +37,12 @@ abbrev pub placeIn : Region → ℕ → List ℕ → ℕ → ℕ → ℕ → Pla
 placeIn region sectorSize protection start first count =
     placeFrom region start (first - start) (first - start + count) (firstKept sectorSize protection (first - start) (first - start + count))
 
--- outside of every region the offset is 0, and nothing is protected; 01: "SRAM addresses are not in any region in the base."
+-- T-05: the SRAM window has no sectors, and nothing of it is protected
+abbrev pub windowPlace : ℕ → ℕ → Place
+windowPlace start first = record { region = Window; offset = first - start; «is_protected» = false; «first_protected» = 0 }
+
+-- outside of every region the offset is 0, and nothing is protected; 01: "SRAM addresses are not in any region in the base." Since T-05 those of the
+-- window are.
 abbrev pub nowhere : Place
 nowhere = record { region = Outside; offset = 0; «is_protected» = false; «first_protected» = 0 }
 
@@ -47,4 +53,5 @@ placeOf part mainSize protection settingsBit first count =
     pick (liesWithin mainStart mainSize first count) (placeIn Main (part .«sector_size») protection mainStart first count)
     (pick (liesWithin (part .«settings_start») (part .«settings_size») first count)
     (placeIn Settings (part .«sector_size») (settingsBit ∷ []) (part .«settings_start») first count)
-    nowhere)
+    (pick (liesWithin (part .«window_start») (part .«window_size») first count) (windowPlace (part .«window_start») first)
+    nowhere))

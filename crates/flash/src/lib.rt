@@ -1,4 +1,4 @@
-// Flash: which region holds a range, its sectors and their protection, and what an erase and a program leave.
+// Flash and the SRAM window: which region holds a range, its sectors and their protection, and what an erase and a program leave.
 mod erasing;
 mod programming;
 mod protection;
@@ -15,6 +15,7 @@ pub use regions::locate;
 pub enum Region {
     Main,
     Settings,
+    Window,
     Outside,
 }
 

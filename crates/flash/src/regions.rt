@@ -1,7 +1,7 @@
 // The regions of memory: which sizes MAIN may have, which region holds a range of addresses, and the bytes there.
 ghost use mathlib.Core.Path.{_≡_};
 ghost use Prim.Native.Nat.{_+_, _≤_};
-ghost use Rattle.flash.specs.Regions.{isMainSize, liesWithin, placeIn, placeOf};
+ghost use Rattle.flash.specs.Regions.{isMainSize, liesWithin, placeIn, windowPlace, placeOf};
 ghost use Rattle.flash.specs.Memory.{memory, bytesIn};
 use crate::Place;
 use crate::Region;
@@ -71,6 +71,19 @@ fn place_in(
     }
 }
 
+// The place of a range that the SRAM window holds wholly. It has no sectors, and nothing of it is protected.
+fn place_in_window(start: u32, first: u32) -> Place
+    requires { ⌜ start ≤ first ⌝ }
+    ensures { λ r. ⌜ r ≡ windowPlace start first ⌝ }
+{
+    Place {
+        region: Region::Window,
+        offset: (first - start) as usize,
+        is_protected: false,
+        first_protected: 0,
+    }
+}
+
 // The region that holds the range wholly, for every count. The settings flash is one sector, and the number is its bit.
 pub fn locate(
     part: Part,
@@ -105,6 +118,11 @@ pub fn locate(
             count,
         );
     }
+    let window = part.window_start;
+    let window_size = part.window_size;
+    if lies_within(window, window_size, first, count) {
+        return place_in_window(window, first);
+    }
     Place {
         region: Region::Outside,
         offset: 0,
@@ -120,12 +138,14 @@ pub fn bytes_in<'a>(
     size: usize,
     main: &'a [u8],
     image: &'a [u8],
+    window: &'a [u8],
 ) -> &'a [u8]
-    ensures { λ r. ⌜ now r ≡ bytesIn offset size (memory (now (main .entry)) (now (image .entry))) region ⌝ }
+    ensures { λ r. ⌜ now r ≡ bytesIn offset size (memory (now (main .entry)) (now (image .entry)) (now (window .entry))) region ⌝ }
 {
     match region {
         Region::Main => octets::part_of(main, offset, size),
         Region::Settings => octets::part_of(image, offset, size),
+        Region::Window => octets::part_of(window, offset, size),
         Region::Outside => octets::part_of(main, 0, 0),
     }
 }

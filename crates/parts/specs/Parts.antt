@@ -1,4 +1,4 @@
--- The numbers of a part, each with its sentence of 01.
+-- The numbers of a part, each with its sentence of 01, or of a request.
 use mathlib.Core.Path.{_≡_}
 use Prim.Native.Nat.{ℕ, _+_, _%_, _^_, _≤_, _<_}
 use Rattle.parts.specs.declared.Part.{Part}
@@ -14,6 +14,9 @@ mspm0 = record {
   -- "Settings flash starts at 0x41C00000 and has 1,024 bytes."
   «settings_start» = 0x41C00000;
   «settings_size» = 1024;
+  -- T-05: "Add 3,456 bytes at 0x20000160 as a third region"
+  «window_start» = 0x20000160;
+  «window_size» = 3456;
   -- 0x26 Verify: "size under 1,024: 0B"
   «least_verify» = 1024;
   -- 0x52 Rate: "Rates for 1..9"

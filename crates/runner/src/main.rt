@@ -32,6 +32,7 @@ fn reply_size(answer: CallAnswer) -> usize
     match answer {
         CallAnswer::Done { size, burn: _ } => size,
         CallAnswer::ReplyAreaTooSmall => 0,
+        CallAnswer::WindowSizeWrong => 0,
         CallAnswer::RecordNotValid => 0,
     }
 }
@@ -42,27 +43,37 @@ fn play_entry(
     session: Session,
     main: &mut [u8],
     image: &mut [u8],
+    window: &mut [u8],
     reply: &mut [u8],
 ) -> Session
     requires { ⌜ index < 255 ⌝ }
 {
     let wait = runner_text::wait_of(script, index);
     let packet = runner_text::packet_of(script, index);
-    let called = mspm0::call(session, main, image, wait, packet, reply);
+    let called = mspm0::call(session, main, image, window, wait, packet, reply);
     let answer = called.answer;
     let size = reply_size(answer);
     print_line(index + 1, octets::part_of(reply, 0, size));
     called.session
 }
 
-// A board with 4,096 bytes of MAIN and blank settings, all of it 0xFF, which start never refuses.
+// A board with 4,096 bytes of MAIN and blank settings, all of it 0xFF, which start never refuses; T-05: "The runner lends zeros."
 fn play(script: &[u8], count: u8) {
     let mut main = [0xFFu8; 4096];
     let mut image = [0xFFu8; 1024];
+    let mut window = [0u8; 3456];
     let mut reply = [0u8; 1729];
-    let mut session = mspm0::start(false, &main, &image).session;
+    let mut session = mspm0::start(false, &main, &image, &window).session;
     for index in 0..count {
-        session = play_entry(script, index, session, &mut main, &mut image, &mut reply);
+        session = play_entry(
+            script,
+            index,
+            session,
+            &mut main,
+            &mut image,
+            &mut window,
+            &mut reply,
+        );
     }
     print_end(session.standing);
 }

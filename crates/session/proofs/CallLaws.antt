@@ -4,7 +4,7 @@ use mathlib.Core.Bool.{not}
 use mathlib.Core.List.{List}
 use Prim.Native.Nat.{ℕ, _≤_}
 use native.Mathlib.Omega.{arith}
-use lib.Dec.{ltb}
+use lib.Dec.{ltb, eqb}
 use lib.ListN.{length}
 use Rattle.octets.proofs.Searching.{by-pick}
 use Rattle.line.specs.Codes.{replyLimit}
@@ -26,7 +26,8 @@ module _ (part : Part) (session : Session) (before : Memory) (wait : ℕ) (packe
   unfolding callOf
   every-call P refused served =
       by-pick P (ltb (length area) replyLimit) _ _ (λ y. refused 9)
-      (λ n. by-pick P (not (isRecord part session (length (before .main)) (length (before .settings)))) _ _ (λ y. refused 10) (λ n. served))
+      (λ n. by-pick P (not (eqb (length (before .window)) (part .«window_size»))) _ _ (λ y. refused 11)
+      (λ n. by-pick P (not (isRecord part session (length (before .main)) (length (before .settings)))) _ _ (λ y. refused 10) (λ n. served)))
 
   -- 01, Numbers of refused calls: "each changes nothing lent and returns the record it was given"
   pub refused-changes-nothing : (after .answer .number ≡ 0 → ⊥) → after ≡ callRefused (after .answer .number) session before area

@@ -17,13 +17,14 @@ pub record CallTold : Type 0 where
 abbrev pub callTold : ℕ → ℕ → Bool → CallTold
 callTold number size burn = record { number = number; size = size; burn = burn }
 
--- "a session call 9 then 10": "9 reply area below 1,729 bytes; 10 record not valid"
+-- "a session call 9 then 10": "9 reply area below 1,729 bytes; 10 record not valid"; T-05: "11, window not 3,456 bytes, .. after 9 in a call"
 abbrev pub callNumbered : CallAnswer → CallTold
 callNumbered (call.Done size burn) = callTold 0 size burn
 callNumbered call.ReplyAreaTooSmall = callTold 9 0 false
+callNumbered call.WindowSizeWrong = callTold 11 0 false
 callNumbered call.RecordNotValid = callTold 10 0 false
 
--- all that a call leaves: its answer, the next session, both images, the reply area
+-- all that a call leaves: its answer, the next session, both images and the window, the reply area
 pub record Left : Type 0 where
   pub answer : CallTold
   pub session : Session

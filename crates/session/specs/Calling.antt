@@ -2,7 +2,7 @@
 use Prim.Native.Nat.{ℕ}
 use mathlib.Core.Bool.{Bool, false, not}
 use mathlib.Core.List.{List}
-use lib.Dec.{ltb}
+use lib.Dec.{ltb, eqb}
 use lib.ListN.{length}
 use Rattle.octets.specs.Choice.{pick}
 use Rattle.line.specs.Codes.{replyLimit}
@@ -71,9 +71,10 @@ serveOf part session before wait packet area = followed part session before pack
 abbrev pub callRefused : ℕ → Session → Memory → List ℕ → Left
 callRefused number session before area = left (callTold number 0 false) session before area
 
--- "9 reply area below 1,729 bytes; 10 record not valid", and then the rules of a session
+-- "9 reply area below 1,729 bytes; 10 record not valid", and then the rules of a session; T-05: "11, window not 3,456 bytes, .. after 9 in a call"
 unfoldable pub callOf : Part → Session → Memory → ℕ → List ℕ → List ℕ → Left
 callOf part session before wait packet area =
     pick (ltb (length area) replyLimit) (callRefused 9 session before area)
+    (pick (not (eqb (length (before .window)) (part .«window_size»))) (callRefused 11 session before area)
     (pick (not (isRecord part session (length (before .main)) (length (before .settings)))) (callRefused 10 session before area)
-    (serveOf part session before wait packet area))
+    (serveOf part session before wait packet area)))

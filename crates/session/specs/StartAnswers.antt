@@ -5,11 +5,13 @@ use Rattle.session.specs.declared.StartAnswer.{StartAnswer}
 use Rattle.session.specs.declared.StartAnswer.the-variants as start
 use Rattle.session.specs.declared.Started.{Started}
 
--- "Start checks 1-8": "1 the board's disabled fuse is set; 2 MAIN size outside the rule", and then as the settings reader
+-- "Start checks 1-8": "1 the board's disabled fuse is set; 2 MAIN size outside the rule", and then as the settings reader; T-05: "11, window
+-- not 3,456 bytes, after 3 at start"
 abbrev pub startNumbered : StartAnswer → Numbered
 startNumbered start.Started = numbered 0 0
 startNumbered start.FuseSet = numbered 1 0
 startNumbered start.MainSizeWrong = numbered 2 0
+startNumbered start.WindowSizeWrong = numbered 11 0
 startNumbered (start.ImageRefused refusal) = refusalNumbered refusal
 
 -- all that start tells

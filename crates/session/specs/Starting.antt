@@ -9,7 +9,7 @@ use Rattle.parts.specs.declared.Part.{Part}
 use Rattle.session_state.specs.Phases.{atStart}
 use Rattle.settings.specs.declared.Settings.{Settings}
 use Rattle.settings.specs.Values.{noSettings}
-use Rattle.settings.specs.Layout.{form1}
+use Rattle.settings.specs.Layout.{form1, imageSize}
 use Rattle.settings.specs.Answers.{ReadTold, numbered}
 use Rattle.settings.specs.Reader.{readOf}
 use Rattle.session.specs.declared.Session.{Session}
@@ -35,9 +35,12 @@ startRead mainSize told =
     (record { answer = numbered 0 0; session = sessionOf mainSize (told .settings) })
     (startRefused (told .number) (told .entry))
 
--- "1 the board's disabled fuse is set; 2 MAIN size outside the rule", then 3 to 8
-unfoldable pub startOf : Part → Bool → List ℕ → List ℕ → StartTold
-startOf part fuse main settings =
+-- "1 the board's disabled fuse is set; 2 MAIN size outside the rule; 3 settings area not 1,024 bytes", T-05: "11, window not 3,456 bytes, after 3 at
+-- start", then 4 to 8. Of the window only the size is looked at.
+unfoldable pub startOf : Part → Bool → List ℕ → List ℕ → List ℕ → StartTold
+startOf part fuse main settings window =
     pick fuse (startRefused 1 0)
     (pick (not (isMainSize part (length main))) (startRefused 2 0)
-    (startRead (length main) (readOf form1 settings)))
+    (pick (not (eqb (length settings) imageSize)) (startRefused 3 0)
+    (pick (not (eqb (length window) (part .«window_size»))) (startRefused 11 0)
+    (startRead (length main) (readOf form1 settings)))))

@@ -56,8 +56,9 @@ fn act_on(
     packet: &[u8],
     main: &mut [u8],
     image: &mut [u8],
+    window: &mut [u8],
 ) -> Planned
-    ensures { λ r. ⌜ (r ≡ intent part session (now (packet .entry)) (memory (now (main .entry)) (now (image .entry))) effect) × (acted (r .reply) (memory (now (main .exit)) (now (image .exit))) ≡ deed part session (now (packet .entry)) (memory (now (main .entry)) (now (image .entry))) effect) ⌝ }
+    ensures { λ r. ⌜ (r ≡ intent part session (now (packet .entry)) (memory (now (main .entry)) (now (image .entry)) (now (window .entry))) effect) × (acted (r .reply) (memory (now (main .exit)) (now (image .exit)) (now (window .exit))) ≡ deed part session (now (packet .entry)) (memory (now (main .entry)) (now (image .entry)) (now (window .entry))) effect) ⌝ }
 {
     if let Effect::Say(reply) = effect {
         return says(reply);
@@ -73,6 +74,7 @@ fn act_on(
         right,
         main,
         image,
+        window,
     );
     let order = planned.order;
     session_act::carry_out(
@@ -83,6 +85,7 @@ fn act_on(
         packet,
         main,
         image,
+        window,
     );
     planned
 }
@@ -104,21 +107,22 @@ fn served(session: Session, judged: Judged, size: usize) -> Called
     }
 }
 
-// A call with a valid record and a large enough area.
+// A call with a valid record, a large enough area and a window of the part's size.
 fn serve(
     part: Part,
     session: Session,
     main: &mut [u8],
     image: &mut [u8],
+    window: &mut [u8],
     wait: u32,
     packet: &[u8],
     area: &mut [u8],
 ) -> Called
-    ensures { λ r. ⌜ callLeft r (memory (now (main .exit)) (now (image .exit))) (now (area .exit)) ≡ serveOf part session (memory (now (main .entry)) (now (image .entry))) wait (now (packet .entry)) (now (area .entry)) ⌝ }
+    ensures { λ r. ⌜ callLeft r (memory (now (main .exit)) (now (image .exit)) (now (window .exit))) (now (area .exit)) ≡ serveOf part session (memory (now (main .entry)) (now (image .entry)) (now (window .entry))) wait (now (packet .entry)) (now (area .entry)) ⌝ }
 {
     let judged = judge_packet(part.last_rate, session, wait, packet);
     let effect = judged.effect;
-    let planned = act_on(part, effect, session, packet, main, image);
+    let planned = act_on(part, effect, session, packet, main, image, window);
     let reply = planned.reply;
     let region = planned.region;
     let size = session_send::answer(
@@ -129,6 +133,7 @@ fn serve(
         packet,
         main,
         image,
+        window,
         area,
     );
     served(session, judged, size)
@@ -141,15 +146,22 @@ pub fn call(
     session: Session,
     main: &mut [u8],
     image: &mut [u8],
+    window: &mut [u8],
     wait: u32,
     packet: &[u8],
     area: &mut [u8],
 ) -> Called
-    ensures { λ r. ⌜ callLeft r (memory (now (main .exit)) (now (image .exit))) (now (area .exit)) ≡ callOf part session (memory (now (main .entry)) (now (image .entry))) wait (now (packet .entry)) (now (area .entry)) ⌝ }
+    ensures { λ r. ⌜ callLeft r (memory (now (main .exit)) (now (image .exit)) (now (window .exit))) (now (area .exit)) ≡ callOf part session (memory (now (main .entry)) (now (image .entry)) (now (window .entry))) wait (now (packet .entry)) (now (area .entry)) ⌝ }
 {
     if area.len() < codes::REPLY_LIMIT {
         return Called {
             answer: CallAnswer::ReplyAreaTooSmall,
+            session,
+        };
+    }
+    if window.len() != part.window_size as usize {
+        return Called {
+            answer: CallAnswer::WindowSizeWrong,
             session,
         };
     }
@@ -159,5 +171,5 @@ pub fn call(
             session,
         };
     }
-    serve(part, session, main, image, wait, packet, area)
+    serve(part, session, main, image, window, wait, packet, area)
 }

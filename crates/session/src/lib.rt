@@ -22,6 +22,7 @@ pub enum StartAnswer {
     Started,
     FuseSet,
     MainSizeWrong,
+    WindowSizeWrong,
     ImageRefused(Refusal),
 }
 
@@ -35,6 +36,7 @@ pub struct Started {
 pub enum CallAnswer {
     Done { size: usize, burn: bool },
     ReplyAreaTooSmall,
+    WindowSizeWrong,
     RecordNotValid,
 }
 

@@ -13,6 +13,7 @@ use session_state::RATE_ID_AT_START;
 use session_state::Standing;
 use settings::ReadAnswer;
 use settings::Reading;
+use settings::Refusal;
 use settings::Settings;
 
 // How a session stands at start.
@@ -60,9 +61,9 @@ fn start_read(main_size: u32, reading: Reading) -> Started
     }
 }
 
-// Starts a session on a board of this part: its fuse, its MAIN flash and its settings flash.
-pub fn start(part: Part, fuse: bool, main: &[u8], image: &[u8]) -> Started
-    ensures { λ r. ⌜ startTold r ≡ startOf part fuse (now (main .entry)) (now (image .entry)) ⌝ }
+// Starts a session on a board of this part: its fuse, its MAIN flash, its settings flash and its SRAM window, of which the size alone is looked at.
+pub fn start(part: Part, fuse: bool, main: &[u8], image: &[u8], window: &[u8]) -> Started
+    ensures { λ r. ⌜ startTold r ≡ startOf part fuse (now (main .entry)) (now (image .entry)) (now (window .entry)) ⌝ }
 {
     if fuse {
         return refused(StartAnswer::FuseSet);
@@ -70,6 +71,12 @@ pub fn start(part: Part, fuse: bool, main: &[u8], image: &[u8]) -> Started
     let size = main.len();
     if !flash::is_main_size(part, size) {
         return refused(StartAnswer::MainSizeWrong);
+    }
+    if image.len() != settings::IMAGE_SIZE {
+        return refused(StartAnswer::ImageRefused(Refusal::SizeWrong));
+    }
+    if window.len() != part.window_size as usize {
+        return refused(StartAnswer::WindowSizeWrong);
     }
     start_read(size as u32, settings::read(image))
 }

@@ -16,7 +16,7 @@ use Rattle.session_judge.specs.declared.Effect.{Effect}
 use Rattle.session_judge.specs.declared.Effect.the-variants.{Say, TellInfo, Strike, Perform}
 use Rattle.settings.specs.declared.Shown.{Shown}
 use Rattle.flash.specs.declared.Region.{Region}
-use Rattle.flash.specs.declared.Region.the-variants.{Main, Settings, Outside}
+use Rattle.flash.specs.declared.Region.the-variants.{Main, Settings, Window, Outside}
 use Rattle.flash.specs.declared.Place.{Place}
 use Rattle.flash.specs.Regions.{placeOf}
 use Rattle.flash.specs.Memory.{Memory, bytesIn}
@@ -26,7 +26,7 @@ use Rattle.session_act.specs.declared.Planned.{Planned}
 use Rattle.session_act.specs.Orders.{carriedOut}
 use Rattle.session_act.specs.Plans.{planned}
 use Rattle.session_act.specs.Erasing.{rangeEraseIn, rangeErase, modeOff, modeWithPassword, lacksResetPassword, factoryReset}
-use Rattle.session_act.specs.Programming.{isOutside, isAligned, writtenIn, programAt}
+use Rattle.session_act.specs.Programming.{isOutside, isWindow, isAligned, writtenIn, programAt}
 use Rattle.session_act.specs.Showing.{readoutOn, readBackAt}
 use Rattle.session_act.specs.Acting.{taskPlanned, planOf}
 
@@ -37,6 +37,7 @@ module _ (P : Planned → Type 0) (shows-none : (reply : Reply) (order : Order) 
   erase-in : (start end : ℕ) (protected : Bool) (region : Region) → P (rangeEraseIn start end protected region)
   erase-in start end protected Main = by-pick P protected _ _ (λ y. shows-none _ _) (λ n. shows-none _ _)
   erase-in start end protected Settings = shows-none _ _
+  erase-in start end protected Window = shows-none _ _
   erase-in start end protected Outside = shows-none _ _
 
   range-erase : (part : Part) (mainSize : ℕ) (protection : List ℕ) (settingsBit start end : ℕ) → P (rangeErase part mainSize protection settingsBit start end)
@@ -50,10 +51,11 @@ module _ (P : Planned → Type 0) (shows-none : (reply : Reply) (order : Order) 
   unfolding programAt
   program part protection settingsBit address size memory place =
       by-pick P (isOutside (place .region)) _ _ (λ y. shows-none _ _)
+      (λ n. by-pick P (isWindow (place .region)) _ _ (λ y. shows-none _ _)
       (λ n. by-pick P (isAligned (part .«word_size») address size) _ _
       (λ y. by-pick P (place .«is_protected») _ _ (λ k. shows-none _ _)
       (λ o. by-pick P (writtenIn part protection settingsBit (place .offset) size memory (place .region)) _ _ (λ w. shows-none _ _) (λ b. shows-none _ _)))
-      (λ n. shows-none _ _))
+      (λ n. shows-none _ _)))
 
   read-back : (readout size : ℕ) (place : Place) → P (readBackAt readout size place)
   unfolding readBackAt

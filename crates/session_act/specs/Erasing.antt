@@ -7,7 +7,7 @@ use Rattle.octets.specs.Choice.{pick}
 use Rattle.parts.specs.declared.Part.{Part}
 use Rattle.line.specs.Codes as codes
 use Rattle.flash.specs.declared.Region.{Region}
-use Rattle.flash.specs.declared.Region.the-variants.{Main, Settings, Outside}
+use Rattle.flash.specs.declared.Region.the-variants.{Main, Settings, Window, Outside}
 use Rattle.flash.specs.declared.Place.{Place}
 use Rattle.flash.specs.Regions.{placeOf}
 use Rattle.session_act.specs.declared.Order.the-variants.{EraseBetween, EraseMain, EraseBoth}
@@ -19,6 +19,7 @@ use Rattle.session_act.specs.Plans.{tells, orders}
 abbrev pub rangeEraseIn : ℕ → ℕ → Bool → Region → Planned
 rangeEraseIn start end protected Main = pick protected (tells codes.invalidRange) (orders codes.success (EraseBetween start end))
 rangeEraseIn start end protected Settings = tells codes.invalidRange
+rangeEraseIn start end protected Window = tells codes.invalidRange
 rangeEraseIn start end protected Outside = tells codes.invalidRange
 
 abbrev pub rangeEraseAt : ℕ → ℕ → Place → Planned

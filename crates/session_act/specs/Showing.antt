@@ -15,7 +15,7 @@ use Rattle.flash.specs.Memory.{Memory, bytesAt}
 use Rattle.session_act.specs.declared.Order.the-variants.{Keep}
 use Rattle.session_act.specs.declared.Planned.{Planned}
 use Rattle.session_act.specs.Plans.{planned, says, tells}
-use Rattle.session_act.specs.Programming.{isOutside}
+use Rattle.session_act.specs.Programming.{isOutside, isWindow}
 
 -- 01, Settings image, kind 3: "readout (two bytes, on only at 0xAABB)"
 abbrev pub readoutOn : ℕ
@@ -35,11 +35,12 @@ abbrev pub readBack : Part → ℕ → ℕ → List ℕ → ℕ → ℕ → ℕ 
 readBack part readout mainSize protection settingsBit address size = readBackAt readout size (placeOf part mainSize protection settingsBit address size)
 
 -- "0x26 Verify, protected, L 9: size under 1,024: 0B; .. not in one region 05; else 32 and the checksum."; T-07: "01's list loses the line"
--- that stood between.
+-- that stood between; T-05: "Verify still answers 05, as 004's own example shows.", where the range lies in the SRAM window
 unfoldable pub verifyAt : Part → ℕ → Memory → Place → Reply
 verifyAt part size memory place =
     pick (ltb size (part .«least_verify»)) (Message codes.tooSmall)
-    (pick (isOutside (place .region)) (Message codes.invalidRange) (Sum (checksumOf (bytesAt place size memory))))
+    (pick (isOutside (place .region)) (Message codes.invalidRange)
+    (pick (isWindow (place .region)) (Message codes.invalidRange) (Sum (checksumOf (bytesAt place size memory)))))
 
 -- the place is that of so many bytes from the address on
 abbrev pub verify : Part → ℕ → List ℕ → ℕ → ℕ → ℕ → Memory → Planned

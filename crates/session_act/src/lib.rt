@@ -21,6 +21,7 @@ pub enum Order {
     EraseBoth,
     ProgramMain { offset: usize, size: u32 },
     ProgramSettings { offset: usize, size: u32 },
+    StoreWindow { offset: usize, size: u32 },
 }
 
 // What is answered, what is to be done, and where the bytes stand that go with the answer, and how many: none but for Read back.

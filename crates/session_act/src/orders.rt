@@ -1,6 +1,7 @@
 // Orders: what was planned is done to memory.
 ghost use mathlib.Core.Path.{_≡_};
 ghost use mathlib.Core.List.{[], _∷_};
+ghost use lib.Seq.{sets};
 ghost use Rattle.flash.specs.Erasing.{eraseAllOf};
 ghost use Rattle.flash.specs.Programming.{programOf};
 ghost use Rattle.line.specs.Packet.{dataIn};
@@ -18,7 +19,7 @@ fn erase_both(
     main: &mut [u8],
     image: &mut [u8],
 )
-    ensures { λ _. ⌜ memory (now (main .exit)) (now (image .exit)) ≡ memory (eraseAllOf «sector_size» (now (protection .entry)) (now (main .entry))) (eraseAllOf «sector_size» («settings_protected» ∷ []) (now (image .entry))) ⌝ }
+    ensures { λ _. ⌜ (now (main .exit) ≡ eraseAllOf «sector_size» (now (protection .entry)) (now (main .entry))) × (now (image .exit) ≡ eraseAllOf «sector_size» («settings_protected» ∷ []) (now (image .entry))) ⌝ }
 {
     flash::erase_all(main, sector_size as usize, protection);
     flash::erase_all(image, sector_size as usize, &[settings_protected]);
@@ -39,7 +40,15 @@ fn program_region(
     flash::program(region, sector_size as usize, protection, offset, bytes);
 }
 
-// Does an order. Protected sectors keep their bytes.
+// Stores the packet's data in the SRAM window as they are.
+fn store_window(offset: usize, size: u32, packet: &[u8], window: &mut [u8])
+    ensures { λ _. ⌜ now (window .exit) ≡ sets (now (window .entry)) offset (dataIn size (now (packet .entry))) ⌝ }
+{
+    let bytes = octets::part_of(packet, line::SECOND_AT, size as usize);
+    octets::put(window, offset, bytes);
+}
+
+// Does an order. Protected sectors keep their bytes, and the SRAM window changes by a store alone.
 pub fn carry_out(
     part: Part,
     order: Order,
@@ -48,8 +57,9 @@ pub fn carry_out(
     packet: &[u8],
     main: &mut [u8],
     image: &mut [u8],
+    window: &mut [u8],
 )
-    ensures { λ _. ⌜ memory (now (main .exit)) (now (image .exit)) ≡ carriedOut part shown (now (protection .entry)) (now (packet .entry)) (memory (now (main .entry)) (now (image .entry))) order ⌝ }
+    ensures { λ _. ⌜ memory (now (main .exit)) (now (image .exit)) (now (window .exit)) ≡ carriedOut part shown (now (protection .entry)) (now (packet .entry)) (memory (now (main .entry)) (now (image .entry)) (now (window .entry))) order ⌝ }
 {
     match order {
         Order::Keep => {}
@@ -81,5 +91,6 @@ pub fn carry_out(
             packet,
             image,
         ),
+        Order::StoreWindow { offset, size } => store_window(offset, size, packet, window),
     }
 }

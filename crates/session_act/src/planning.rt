@@ -25,8 +25,9 @@ fn plan_task<'a>(
     right: bool,
     main: &'a [u8],
     image: &'a [u8],
+    window: &'a [u8],
 ) -> Planned
-    ensures { λ r. ⌜ r ≡ taskPlanned part «main_size» shown (now (protection .entry)) right (memory (now (main .entry)) (now (image .entry))) task ⌝ }
+    ensures { λ r. ⌜ r ≡ taskPlanned part «main_size» shown (now (protection .entry)) right (memory (now (main .entry)) (now (image .entry)) (now (window .entry))) task ⌝ }
 {
     match task {
         Guarded::RangeErase { start, end } => erasing::range_erase(
@@ -51,6 +52,7 @@ fn plan_task<'a>(
             size,
             main,
             image,
+            window,
         ),
         Guarded::ReadBack { address, size } => showing::read_back(
             part,
@@ -70,6 +72,7 @@ fn plan_task<'a>(
             size,
             main,
             image,
+            window,
         )),
         Guarded::FactoryReset { with_password } => {
             erasing::factory_reset(shown.reset_mode, with_password, right)
@@ -88,8 +91,9 @@ pub fn plan<'a>(
     right: bool,
     main: &'a [u8],
     image: &'a [u8],
+    window: &'a [u8],
 ) -> Planned
-    ensures { λ r. ⌜ r ≡ planOf part «main_size» shown (now (protection .entry)) right (memory (now (main .entry)) (now (image .entry))) effect ⌝ }
+    ensures { λ r. ⌜ r ≡ planOf part «main_size» shown (now (protection .entry)) right (memory (now (main .entry)) (now (image .entry)) (now (window .entry))) effect ⌝ }
 {
     match effect {
         Effect::Say(reply) => plans::says(reply),
@@ -104,6 +108,7 @@ pub fn plan<'a>(
             right,
             main,
             image,
+            window,
         ),
     }
 }

@@ -57,7 +57,7 @@ pub(crate) fn read_back(
     }
 }
 
-// The checksum of a range that one region holds wholly.
+// The checksum of a range that one region of flash holds wholly.
 pub(crate) fn verify<'a>(
     part: Part,
     main_size: u32,
@@ -67,8 +67,9 @@ pub(crate) fn verify<'a>(
     size: u32,
     main: &'a [u8],
     image: &'a [u8],
+    window: &'a [u8],
 ) -> Reply
-    ensures { λ r. ⌜ r ≡ verifyAt part size (memory (now (main .entry)) (now (image .entry))) (placeOf part «main_size» (now (protection .entry)) «settings_protected» address size) ⌝ }
+    ensures { λ r. ⌜ r ≡ verifyAt part size (memory (now (main .entry)) (now (image .entry)) (now (window .entry))) (placeOf part «main_size» (now (protection .entry)) «settings_protected» address size) ⌝ }
 {
     let least = part.least_verify;
     if size < least {
@@ -86,6 +87,9 @@ pub(crate) fn verify<'a>(
     if let Region::Outside = region {
         return Reply::Message(codes::INVALID_RANGE);
     }
-    let bytes = flash::bytes_in(region, place.offset, size as usize, main, image);
+    if let Region::Window = region {
+        return Reply::Message(codes::INVALID_RANGE);
+    }
+    let bytes = flash::bytes_in(region, place.offset, size as usize, main, image, window);
     Reply::Sum(checksum::checksum_of(bytes))
 }

@@ -1,4 +1,4 @@
--- 01, Numbers of refused calls, "Start checks 1-8": what start leaves, where the record is lent.
+-- 01, Numbers of refused calls, "Start checks 1-8", and T-05's 11: what start leaves, where the record is lent.
 use Prim.Native.Nat.{ℕ}
 use mathlib.Core.Bool.{Bool}
 use mathlib.Core.List.{List}
@@ -19,5 +19,5 @@ abbrev pub kept : Session → StartTold → StartTold
 kept session told = pick (eqb (told .answer .number) 0) told (startLeft (told .answer) session)
 
 -- "keeps one session record and hands it to each call to be updated"
-unfoldable pub startInPlace : Session → Bool → List ℕ → List ℕ → StartTold
-startInPlace session fuse main settings = kept session (startOf mspm0 fuse main settings)
+unfoldable pub startInPlace : Session → Bool → List ℕ → List ℕ → List ℕ → StartTold
+startInPlace session fuse main settings window = kept session (startOf mspm0 fuse main settings window)

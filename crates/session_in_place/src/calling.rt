@@ -12,13 +12,14 @@ pub fn call(
     session: &mut Session,
     main: &mut [u8],
     image: &mut [u8],
+    window: &mut [u8],
     wait: u32,
     packet: &[u8],
     area: &mut [u8],
 ) -> CallAnswer
-    ensures { λ r. ⌜ left (callNumbered r) (now (session .exit)) (memory (now (main .exit)) (now (image .exit))) (now (area .exit)) ≡ callOf mspm0 (now (session .entry)) (memory (now (main .entry)) (now (image .entry))) wait (now (packet .entry)) (now (area .entry)) ⌝ }
+    ensures { λ r. ⌜ left (callNumbered r) (now (session .exit)) (memory (now (main .exit)) (now (image .exit)) (now (window .exit))) (now (area .exit)) ≡ callOf mspm0 (now (session .entry)) (memory (now (main .entry)) (now (image .entry)) (now (window .entry))) wait (now (packet .entry)) (now (area .entry)) ⌝ }
 {
-    let called = mspm0::call(*session, main, image, wait, packet, area);
+    let called = mspm0::call(*session, main, image, window, wait, packet, area);
     *session = called.session;
     called.answer
 }

@@ -7,10 +7,10 @@ use session::StartAnswer;
 use session::Started;
 
 // The session that was started, or beside a refusal the one that was given.
-fn start_or_keep(session: Session, fuse: bool, main: &[u8], image: &[u8]) -> Started
-    ensures { λ r. ⌜ startTold r ≡ startInPlace session fuse (now (main .entry)) (now (image .entry)) ⌝ }
+fn start_or_keep(session: Session, fuse: bool, main: &[u8], image: &[u8], window: &[u8]) -> Started
+    ensures { λ r. ⌜ startTold r ≡ startInPlace session fuse (now (main .entry)) (now (image .entry)) (now (window .entry)) ⌝ }
 {
-    let started = mspm0::start(fuse, main, image);
+    let started = mspm0::start(fuse, main, image, window);
     let answer = started.answer;
     if let StartAnswer::Started = answer {
         return started;
@@ -19,10 +19,16 @@ fn start_or_keep(session: Session, fuse: bool, main: &[u8], image: &[u8]) -> Sta
 }
 
 // The start of `mspm0`; the record becomes the session. A refused start leaves it as it was.
-pub fn start(session: &mut Session, fuse: bool, main: &[u8], image: &[u8]) -> StartAnswer
-    ensures { λ r. ⌜ startLeft (startNumbered r) (now (session .exit)) ≡ startInPlace (now (session .entry)) fuse (now (main .entry)) (now (image .entry)) ⌝ }
+pub fn start(
+    session: &mut Session,
+    fuse: bool,
+    main: &[u8],
+    image: &[u8],
+    window: &[u8],
+) -> StartAnswer
+    ensures { λ r. ⌜ startLeft (startNumbered r) (now (session .exit)) ≡ startInPlace (now (session .entry)) fuse (now (main .entry)) (now (image .entry)) (now (window .entry)) ⌝ }
 {
-    let started = start_or_keep(*session, fuse, main, image);
+    let started = start_or_keep(*session, fuse, main, image, window);
     *session = started.session;
     started.answer
 }

@@ -61,14 +61,15 @@ pub fn answer<'a>(
     packet: &[u8],
     main: &'a [u8],
     image: &'a [u8],
+    window: &'a [u8],
     area: &mut [u8],
 ) -> usize
-    ensures { λ r. ⌜ sent r (now (area .exit)) ≡ answerOf reply region offset count (now (packet .entry)) (memory (now (main .entry)) (now (image .entry))) (now (area .entry)) ⌝ }
+    ensures { λ r. ⌜ sent r (now (area .exit)) ≡ answerOf reply region offset count (now (packet .entry)) (memory (now (main .entry)) (now (image .entry)) (now (window .entry))) (now (area .entry)) ⌝ }
 {
     if let Reply::Silence = reply {
         return 0;
     }
     let told = hush(packet, reply);
-    let bytes = flash::bytes_in(region, offset, count as usize, main, image);
+    let bytes = flash::bytes_in(region, offset, count as usize, main, image, window);
     line::write_reply(told, bytes, area)
 }

@@ -26,7 +26,13 @@ fn show_call(row: &[u8], called: Called, main: &[u8], image: &[u8], area: &[u8])
 }
 
 // The call of a row. The longest packet here, of L 1,722, has as many bytes as the longest reply.
-fn call(session: Session, main: &mut [u8], image: &mut [u8], row: &[u8]) -> Session {
+fn call(
+    session: Session,
+    main: &mut [u8],
+    image: &mut [u8],
+    window: &mut [u8],
+    row: &[u8],
+) -> Session {
     let mut packet = [0u8; codes::REPLY_LIMIT];
     let mut area = [0u8; codes::REPLY_LIMIT];
     let size = packets::put_packet(row, &mut packet);
@@ -34,6 +40,7 @@ fn call(session: Session, main: &mut [u8], image: &mut [u8], row: &[u8]) -> Sess
         session,
         main,
         image,
+        window,
         rows::wait_in(row),
         octets::part_of(&packet, 0, size),
         &mut area,
@@ -48,31 +55,39 @@ fn show_board(row: &[u8]) {
     text::say(b"  phase    sleep  idle wrong tries  rate  main   set reply");
 }
 
-// The board of a row. MAIN has no byte 0xFF at first.
-fn start(main: &mut [u8], image: &mut [u8], row: &[u8]) -> Session {
+// The board of a row. MAIN has no byte 0xFF at first, and the window is as the board before left it.
+fn start(main: &mut [u8], image: &mut [u8], window: &[u8], row: &[u8]) -> Session {
     octets::fill(main, 0x5A);
     boards::put_settings(row, image);
     show_board(row);
-    mspm0::start(false, main, image).session
+    mspm0::start(false, main, image, window).session
 }
 
-fn step(session: Session, main: &mut [u8], image: &mut [u8], row: &[u8]) -> Session {
+fn step(
+    session: Session,
+    main: &mut [u8],
+    image: &mut [u8],
+    window: &mut [u8],
+    row: &[u8],
+) -> Session {
     if rows::is_board(row) {
-        return start(main, image, row);
+        return start(main, image, window, row);
     }
-    call(session, main, image, row)
+    call(session, main, image, window, row)
 }
 
 // The rows of boards and of their calls, one after the other.
 pub(crate) fn run(input: &[u8]) {
     let mut main = [0x5Au8; 4096];
     let mut image = [0xFFu8; settings::IMAGE_SIZE];
-    let mut session = mspm0::start(false, &main, &image).session;
+    let mut window = [0u8; 3456];
+    let mut session = mspm0::start(false, &main, &image, &window).session;
     for i in 0..input.len() / ROW_SIZE {
         session = step(
             session,
             &mut main,
             &mut image,
+            &mut window,
             octets::part_of(input, ROW_SIZE * i, ROW_SIZE),
         );
     }

@@ -1,4 +1,5 @@
-// A new board for each request, such that the printed reply can arise: MAIN of 4,096 bytes 0xFF, both passwords all 0xFF, readout on.
+// A new board for each request, such that the printed reply can arise: MAIN of 4,096 bytes 0xFF, both passwords all 0xFF, readout on, a window
+// of zeros.
 use line::CORE_AT;
 use line::codes;
 use session::CallAnswer;
@@ -21,9 +22,9 @@ fn settings_for(packet: &[u8]) -> Settings {
     settings
 }
 
-fn started(packet: &[u8], main: &[u8], image: &mut [u8]) -> Session {
+fn started(packet: &[u8], main: &[u8], image: &mut [u8], window: &[u8]) -> Session {
     settings::write(settings_for(packet), image);
-    mspm0::start(false, main, image).session
+    mspm0::start(false, main, image, window).session
 }
 
 // The session after a packet that comes without a wait.
@@ -32,16 +33,23 @@ fn after(
     packet: &[u8],
     main: &mut [u8],
     image: &mut [u8],
+    window: &mut [u8],
     area: &mut [u8],
 ) -> Session {
-    mspm0::call(session, main, image, 0, packet, area).session
+    mspm0::call(session, main, image, window, 0, packet, area).session
 }
 
-fn unlocked(session: Session, main: &mut [u8], image: &mut [u8], area: &mut [u8]) -> Session {
+fn unlocked(
+    session: Session,
+    main: &mut [u8],
+    image: &mut [u8],
+    window: &mut [u8],
+    area: &mut [u8],
+) -> Session {
     let mut unlock = [0xFF; 40];
     octets::put(&mut unlock, 0, b"\x80\x21\x00\x21");
     octets::put(&mut unlock, 36, b"\x02\xAA\xF0\x3D");
-    after(session, &unlock, main, image, area)
+    after(session, &unlock, main, image, window, area)
 }
 
 // Connect comes to a session that was just started, Unlock to a locked one, and any other command to an unlocked one.
@@ -50,17 +58,18 @@ fn made_ready(
     code: u8,
     main: &mut [u8],
     image: &mut [u8],
+    window: &mut [u8],
     area: &mut [u8],
 ) -> Session {
     if code == codes::CONNECT {
         return session;
     }
     let connect = b"\x80\x01\x00\x12\x3A\x61\x44\xDE";
-    let connected = after(session, connect, main, image, area);
+    let connected = after(session, connect, main, image, window, area);
     if code == codes::UNLOCK {
         return connected;
     }
-    unlocked(connected, main, image, area)
+    unlocked(connected, main, image, window, area)
 }
 
 // A refused call has no reply.
@@ -68,6 +77,7 @@ fn size_of(answer: CallAnswer) -> usize {
     match answer {
         CallAnswer::Done { size, burn: _ } => size,
         CallAnswer::ReplyAreaTooSmall => 0,
+        CallAnswer::WindowSizeWrong => 0,
         CallAnswer::RecordNotValid => 0,
     }
 }
@@ -76,14 +86,17 @@ fn size_of(answer: CallAnswer) -> usize {
 pub(crate) fn put_reply(packet: &[u8], area: &mut [u8]) -> usize {
     let mut main = [0xFF; 4096];
     let mut image = [0; 1024];
+    let mut window = [0; 3456];
     let code = octets::byte_at(packet, CORE_AT);
     let session = made_ready(
-        started(packet, &main, &mut image),
+        started(packet, &main, &mut image, &window),
         code,
         &mut main,
         &mut image,
+        &mut window,
         area,
     );
-    let answer = mspm0::call(session, &mut main, &mut image, 0, packet, area).answer;
+    let called = mspm0::call(session, &mut main, &mut image, &mut window, 0, packet, area);
+    let answer = called.answer;
     size_of(answer)
 }

@@ -165,6 +165,11 @@ struct step choose_main(struct dice *dice, uint32_t main_size)
     return (struct step){.kind = SET_MAIN, .number = ONE_OF(dice, patterns), .fill = roll(dice), .main_size = main_size};
 }
 
+struct step choose_window(struct dice *dice)
+{
+    return (struct step){.kind = SET_WINDOW, .fill = roll(dice)};
+}
+
 /* ---- Records ---- */
 
 static void choose_standing(struct dice *dice, uint8_t *record)

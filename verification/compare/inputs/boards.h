@@ -18,6 +18,7 @@ void break_fields(struct dice *dice, uint8_t *fields);
 
 /* Steps that give the board new contents. */
 struct step choose_main(struct dice *dice, uint32_t main_size);
+struct step choose_window(struct dice *dice);
 struct step choose_settings(struct dice *dice, uint32_t main_size);
 struct step choose_record(struct dice *dice, uint32_t main_size);
 

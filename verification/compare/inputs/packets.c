@@ -9,10 +9,10 @@
 static uint32_t choose_address(struct dice *dice, const struct standing *standing)
 {
     static const int32_t near[] = {-1024, -1023, -16, -8, -7, -4, -1, 0, 0, 0, 1, 4, 8, 1024};
-    static const uint32_t far[] = {0x20000000, 0x20000160, 0x80000000, 0x10000,    0xFFFFFC00, 0xFFFFFFF0,
+    static const uint32_t far[] = {0x20000000, 0x20001000, 0x80000000, 0x10000,    0xFFFFFC00, 0xFFFFFFF0,
                                    0xFFFFFFF8, 0xFFFFFFF8, 0xFFFFFFFF, 0x41BFFC00, 0x01C00000, 0x41C10000};
     uint32_t near_by = (uint32_t)ONE_OF(dice, near);
-    switch (below(dice, 12)) {
+    switch (below(dice, 16)) {
     case 0:
         return 0;
     case 1:
@@ -29,6 +29,12 @@ static uint32_t choose_address(struct dice *dice, const struct standing *standin
         return below(dice, standing->main_size / SECTOR + 1) * SECTOR + near_by;
     case 7:
         return below(dice, standing->main_size);
+    case 8:
+        return WINDOW_START + near_by;
+    case 9:
+        return WINDOW_START + WINDOW_BYTES + near_by;
+    case 10:
+        return WINDOW_START + below(dice, WINDOW_BYTES);
     default:
         return below(dice, standing->main_size / 8) * 8;
     }
@@ -41,6 +47,8 @@ static uint32_t bytes_left(const struct standing *standing, uint32_t address)
         return standing->main_size - address;
     if (address - SETTINGS_START < SETTINGS_BYTES)
         return SETTINGS_START + SETTINGS_BYTES - address;
+    if (address - WINDOW_START < WINDOW_BYTES)
+        return WINDOW_START + WINDOW_BYTES - address;
     return 0 - address;
 }
 
@@ -150,6 +158,8 @@ static size_t program_core(struct dice *dice, const struct standing *standing, u
         count = most;
     if (count < 1 || count > most)
         count = 16;
+    if (chance(dice, 3)) /* up to the window's end, or a byte over it */
+        address = WINDOW_START + WINDOW_BYTES - count + below(dice, 2);
     write32(core + 1, address);
     memset(core + 5, chance(dice, 50) ? 0x00 : 0xFF, count);
     if (chance(dice, 80))
@@ -170,7 +180,8 @@ static size_t read_back_core(struct dice *dice, const struct standing *standing,
 static size_t verify_core(struct dice *dice, const struct standing *standing, uint8_t *core)
 {
     static const uint32_t limits[] = {0, 8, 1023, 1024, 1025, 65535, 65536, 65537, 0xFFFFFFFF, 0x10400, 0x80000400};
-    static const uint32_t starts[] = {0, 0, SETTINGS_START, SETTINGS_START - 1024, SETTINGS_START + 1024};
+    static const uint32_t starts[] = {0,            0,          SETTINGS_START, SETTINGS_START - 1024, SETTINGS_START + 1024,
+                                      WINDOW_START, 0x20000000};
     uint32_t address = chance(dice, 40) ? ONE_OF(dice, starts) : choose_address(dice, standing);
     uint32_t count = choose_count(dice, standing, address, 1024 + below(dice, 1024));
     write32(core + 1, address);

@@ -39,6 +39,9 @@ void print_step(FILE *out, const struct step *step)
         fprintf(out, "MAIN := %zu bytes, pattern %u, seed %016llX\n", step->main_size, number,
                 (unsigned long long)step->fill);
         break;
+    case SET_WINDOW:
+        fprintf(out, "window := noise, seed %016llX\n", (unsigned long long)step->fill);
+        break;
     case SET_SETTINGS:
         fputs("settings := ", out);
         print_bytes(out, step);
@@ -48,12 +51,12 @@ void print_step(FILE *out, const struct step *step)
         print_bytes(out, step);
         break;
     case CALL_START:
-        fprintf(out, "start: fuse %u, MAIN %zu, settings %zu, record %zu\n", number, step->main_size,
-                step->settings_size, step->record_size);
+        fprintf(out, "start: fuse %u, MAIN %zu, settings %zu, window %zu, record %zu\n", number, step->main_size,
+                step->settings_size, step->window_size, step->record_size);
         break;
     case CALL_SESSION:
-        fprintf(out, "call: wait %u, MAIN %zu, settings %zu, record %zu, reply %zu, packet ", number, step->main_size,
-                step->settings_size, step->record_size, step->reply_size);
+        fprintf(out, "call: wait %u, MAIN %zu, settings %zu, window %zu, record %zu, reply %zu, packet ", number,
+                step->main_size, step->settings_size, step->window_size, step->record_size, step->reply_size);
         print_bytes(out, step);
         break;
     case CALL_READ:

@@ -10,6 +10,7 @@
 
 enum step_kind {
     SET_MAIN,     /* MAIN gets new contents: `number` is the pattern, `fill` its seed */
+    SET_WINDOW,   /* the window gets noise, `fill` is its seed */
     SET_SETTINGS, /* the settings flash gets `data` */
     SET_RECORD,   /* the record area gets `data` */
     CALL_START,   /* `number` is the fuse */
@@ -23,7 +24,7 @@ struct step {
     enum step_kind kind;
     uint32_t number;
     uint64_t fill; /* seeds the bytes that the areas to be written hold beforehand; 0: as they are */
-    size_t main_size, settings_size, record_size, reply_size, fields_size; /* as lent */
+    size_t main_size, settings_size, window_size, record_size, reply_size, fields_size; /* as lent */
     size_t data_size;
     uint8_t *data;
 };

@@ -56,6 +56,12 @@ static size_t choose_settings_size(struct dice *dice)
     return mostly(dice, SETTINGS_BYTES, wrong, 7);
 }
 
+static size_t choose_window_size(struct dice *dice)
+{
+    static const size_t wrong[] = {0, 1, 1024, 3455, 3457, 4096};
+    return mostly(dice, WINDOW_BYTES, wrong, 6);
+}
+
 static size_t choose_record_size(struct dice *dice)
 {
     static const size_t wrong[] = {0, 1, 74, 90, 93, 95, 128};
@@ -78,15 +84,18 @@ static size_t choose_reply_size(struct dice *dice)
 static struct step choose_start(struct dice *dice, uint32_t main_size)
 {
     static const uint32_t set[] = {1, 2, 256, 0x01000000, 0x80000000, 0xFFFFFFFF};
-    uint32_t lent = main_size;
+    struct step step = {.kind = CALL_START,
+                        .number = chance(dice, 94) ? 0 : ONE_OF(dice, set),
+                        .fill = chance(dice, 50) ? roll(dice) : 0,
+                        .main_size = main_size,
+                        .settings_size = choose_settings_size(dice),
+                        .window_size = choose_window_size(dice),
+                        .record_size = choose_record_size(dice)};
     if (chance(dice, 6))
-        lent = choose_odd_main_size(dice);
-    return (struct step){.kind = CALL_START,
-                         .number = chance(dice, 94) ? 0 : ONE_OF(dice, set),
-                         .fill = chance(dice, 50) ? roll(dice) : 0,
-                         .main_size = lent,
-                         .settings_size = choose_settings_size(dice),
-                         .record_size = choose_record_size(dice)};
+        step.main_size = choose_odd_main_size(dice);
+    if (chance(dice, 1)) /* 3 and 11 both apply */
+        step.settings_size = step.window_size = 0;
+    return step;
 }
 
 static struct step choose_call(struct dice *dice, uint32_t main_size, const uint8_t *record)
@@ -98,6 +107,7 @@ static struct step choose_call(struct dice *dice, uint32_t main_size, const uint
     if (step.main_size > MAIN_ROOM || chance(dice, 1))
         step.main_size = chance(dice, 50) ? choose_main_size(dice) : choose_odd_main_size(dice);
     step.settings_size = choose_settings_size(dice);
+    step.window_size = choose_window_size(dice);
     step.record_size = choose_record_size(dice);
     step.reply_size = choose_reply_size(dice);
     give_data(&step, packet, choose_packet(dice, &standing, packet));
@@ -155,5 +165,7 @@ struct step choose_step(struct dice *dice, uint32_t main_size, const struct side
         return choose_start(dice, main_size);
     if (which == 20)
         return choose_main(dice, main_size);
+    if (which == 21 && chance(dice, 30))
+        return choose_window(dice);
     return choose_call(dice, main_size, side->area[AREA_RECORD]);
 }

@@ -10,8 +10,10 @@
  */
 
 #define SETTINGS_START 0x41C00000u
+#define WINDOW_START 0x20000160u
 
 enum { SECTOR = 1024, MAIN_LARGEST = 65536, SETTINGS_BYTES = 1024, CORE_LARGEST = 1721, REPLY_LEAST = 1729 };
+enum { WINDOW_BYTES = 3456 };
 
 /* Fields: bytes 52 to 125 of a settings image. */
 enum {

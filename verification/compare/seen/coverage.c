@@ -18,6 +18,7 @@ static const char *const outcome_names[OUTCOMES] = {"00", "01", "02", "03", "04"
                                                     "08", "09", "0A", "0B", "data", "F0",   "done", "not"};
 
 static const char *const edge_names[EDGES] = {"from 0",     "to end", "over end", "at end", "over start",
+                                              "from first", "to end", "over end", "at end", "over start",
                                               "from first", "to end", "over end", "at end", "past 2^32"};
 
 /* The outcomes that document 01, with the requests of 02 that are built, gives each command, in the order of command_codes; the last: unknown codes. */
@@ -99,7 +100,7 @@ static void print_outcomes(FILE *out)
 
 static void print_edges(FILE *out)
 {
-    fprintf(out, "\n%-14s%-44s%s\n%-14s", "unlocked range", "  MAIN", "  settings", "");
+    fprintf(out, "\n%-14s%-44s%-55s%s\n%-14s", "unlocked range", "  MAIN", "  settings", "  window", "");
     for (int edge = 0; edge < EDGES; edge++)
         fprintf(out, "%11s", edge_names[edge]);
     for (int row = 0; row < COMMANDS; row++) {
@@ -137,6 +138,6 @@ size_t print_unseen(FILE *out)
         for (int edge = 0; edge < EDGES; edge++)
             if (is_ranged(row) && edges[row][edge] == 0 && ++unseen)
                 fprintf(out, "not seen: %s: range %s (%s)\n", name_of(row), edge_names[edge],
-                        edge <= MAIN_AT_END ? "MAIN" : "settings");
+                        edge <= MAIN_AT_END ? "MAIN" : edge <= SETTINGS_AT_END ? "settings" : "window");
     return unseen;
 }

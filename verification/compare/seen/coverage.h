@@ -17,11 +17,15 @@
     P(MESSAGE_08, "", "08") P(MESSAGE_09, "", "09") P(MESSAGE_0A, "", "0A") P(MESSAGE_0B, "", "0B") \
     P(START_TAKEN, "start, refusal", "none") P(START_1, "", "1") P(START_2, "", "2") P(START_3, "", "3") \
     P(START_4, "", "4") P(START_5, "", "5") P(START_6, "", "6") P(START_7, "", "7") P(START_8, "", "8") \
-    P(START_10, "", "10") \
+    P(START_10, "", "10") P(START_11, "", "11") P(START_3_AND_11, "", "3 before 11") P(START_11_AND_4, "", "11 before 4 to 8") \
     P(READ_TAKEN, "settings reader, refusal", "none") P(READ_3, "", "3") P(READ_4, "", "4") P(READ_5, "", "5") \
     P(READ_6, "", "6") P(READ_7, "", "7") P(READ_8, "", "8") P(READ_10, "", "10") \
     P(WRITE_TAKEN, "settings writer, refusal", "none") P(WRITE_3, "", "3") P(WRITE_8, "", "8") P(WRITE_10, "", "10") \
     P(CALL_TAKEN, "session call, refusal", "none") P(CALL_9, "", "9") P(CALL_10, "", "10") \
+    P(CALL_11, "", "11") P(CALL_9_AND_11, "", "9 before 11") P(CALL_11_AND_10, "", "11 before 10") \
+    P(NO_WINDOW_DETECT, "11 in phase", "detect") P(NO_WINDOW_COMMAND, "", "command") \
+    P(NO_WINDOW_STANDBY, "", "standby") P(NO_WINDOW_ENDED, "", "ended") P(NO_WINDOW_DISABLED, "", "disabled") \
+    P(WINDOW_SHORT, "window lent", "3,455 bytes") P(WINDOW_LONG, "", "3,457 bytes") \
     P(ENTRY_1, "refusal 6, entry", "1") P(ENTRY_2, "", "2") P(ENTRY_3, "", "3") P(ENTRY_4, "", "4") \
     P(ENTRY_5, "", "5") P(ENTRY_6, "", "6") P(ENTRY_KIND, "", "kind") P(ENTRY_OFFSET, "", "offset") \
     P(ENTRY_LENGTH, "", "length") P(ENTRY_ZERO, "", "zero") \
@@ -88,6 +92,14 @@
     P(BESIDE_PROGRAM_END, "", "Program up to MAIN's end, the bit beyond") \
     P(BESIDE_ERASE_AFTER, "", "Range erase after it") P(BESIDE_ERASE_BEFORE, "", "Range erase before it") \
     P(BESIDE_ERASE_END, "", "Range erase up to MAIN's end, the bit beyond") \
+    P(STORED_ODD, "stored in the window", "at an odd address") P(STORED_ODD_COUNT, "", "an odd count") \
+    P(STORED_ONE, "", "1 byte") P(STORED_1716, "", "1,716 bytes") P(STORED_FAST, "", "by Program fast") \
+    P(STORED_OVER, "", "over bytes that a program could not set") P(STORED_PROTECTED, "", "all else protected") \
+    P(WINDOW_READ, "of the window", "Read back") P(WINDOW_READ_OFF, "", "Read back, readout off") \
+    P(WINDOW_VERIFY_SMALL, "", "Verify below 1,024") P(WINDOW_VERIFY_1024, "", "Verify 1,024 from its start") \
+    P(WINDOW_VERIFY_WHOLE, "", "Verify 3,456") P(WINDOW_VERIFY_EXAMPLE, "", "Verify 0x20000000, 1,024") \
+    P(WINDOW_ERASE, "", "Range erase") \
+    P(WINDOW_MASS, "window left by", "Mass erase") P(WINDOW_FACTORY, "", "Factory reset") P(WINDOW_ALERT, "", "alert reset") \
     P(FACTORY_OPEN, "Factory reset", "mode 1, L 1") P(FACTORY_OPEN_17, "", "mode 1, L 17") \
     P(FACTORY_RIGHT, "", "mode 2, right") P(FACTORY_WRONG, "", "mode 2, wrong") P(FACTORY_NONE, "", "mode 2, none") \
     P(FAST_LOCKED, "Program fast refused", "locked") P(FAST_LENGTH, "", "L") P(FAST_RANGE, "", "range") \
@@ -146,6 +158,11 @@ enum edge {
     SETTINGS_TO_END,
     SETTINGS_OVER_END,
     SETTINGS_AT_END,
+    WINDOW_OVER_START,
+    WINDOW_FIRST,
+    WINDOW_TO_END,
+    WINDOW_OVER_END,
+    WINDOW_AT_END,
     PAST_2_32,
     EDGES
 };

@@ -29,6 +29,14 @@ static void look_at_words(struct finding *finding, const uint8_t *region, uint32
                               (first + count + WORD <= size && is_written(region + first + count, WORD));
 }
 
+static bool and_differs(const uint8_t *old, const uint8_t *new, size_t count)
+{
+    for (size_t i = 0; i < count; i++)
+        if ((old[i] & new[i]) != new[i])
+            return true;
+    return false;
+}
+
 struct finding look(const struct step *step, const struct side *side)
 {
     struct finding finding = {.words = 0};
@@ -41,5 +49,7 @@ struct finding look(const struct step *step, const struct side *side)
         look_at_words(&finding, side->area[AREA_MAIN], (uint32_t)step->main_size, first, (uint32_t)count);
     else if (offset < SETTINGS_BYTES && count <= SETTINGS_BYTES - offset)
         look_at_words(&finding, side->area[AREA_SETTINGS], SETTINGS_BYTES, offset, (uint32_t)count);
+    else if (first - WINDOW_START < WINDOW_BYTES && count <= WINDOW_START + WINDOW_BYTES - first)
+        finding.and_differs = and_differs(side->area[AREA_WINDOW] + (first - WINDOW_START), step->data + 8, count);
     return finding;
 }

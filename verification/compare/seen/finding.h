@@ -7,10 +7,12 @@
 /* What a call finds, looked at before it is made. */
 struct finding {
     uint8_t record[RECORD_ROOM];
-    /* of a Program, also a fast one, whose range lies in one region; else all are 0: */
+    /* of a Program, also a fast one, whose range lies in one region of flash; else all are 0: */
     uint32_t words, written; /* how many words there are, and how many of them are not blank */
     bool bytes_written;      /* a byte of the range is not 0xFF, also where it is no whole words */
     bool first_written, last_written, beside_written;
+    /* of one whose range lies in the window: */
+    bool and_differs; /* old AND new is not the new */
 };
 
 struct finding look(const struct step *step, const struct side *side);

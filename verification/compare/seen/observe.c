@@ -9,7 +9,7 @@
 struct sight {
     const struct step *step;
     const struct finding *found;
-    const uint8_t *before, *record, *reply, *main_flash, *settings, *fields;
+    const uint8_t *before, *record, *reply, *main_flash, *settings, *window, *fields;
     uint64_t answer;
     uint32_t main_size;
     /* of an acknowledged packet: */
@@ -37,6 +37,14 @@ static bool all_ff(const uint8_t *bytes, size_t count)
 
 /* ---- Start, the settings calls and the rate ---- */
 
+/* Whether a settings image is blank or as the writer makes it of fields. */
+static bool image_accepted(const uint8_t *image)
+{
+    uint8_t right[SETTINGS_BYTES];
+    make_image(image + IMAGE_FIELDS_AT, right);
+    return all_ff(image, SETTINGS_BYTES) || memcmp(right, image, SETTINGS_BYTES) == 0;
+}
+
 static void observe_entry(uint64_t answer, const uint8_t *image)
 {
     uint8_t right[SETTINGS_BYTES];
@@ -54,7 +62,9 @@ static void observe_start(const struct sight *sight)
     unsigned refusal = refusal_of(sight->answer);
     const struct step *step = sight->step;
     size_t size = step->main_size;
-    seen(refusal == 10 ? START_10 : START_TAKEN + (int)refusal);
+    seen(refusal == 10 ? START_10 : refusal == 11 ? START_11 : START_TAKEN + (int)refusal);
+    seen_if(refusal == 3 && step->window_size != WINDOW_BYTES, START_3_AND_11);
+    seen_if(refusal == 11 && !image_accepted(sight->settings), START_11_AND_4);
     if (refusal == 1)
         seen(step->number == 1 ? FUSE_1 : step->number % 256 == 0 ? FUSE_256 : FUSE_OTHER);
     if (refusal == 2)
@@ -245,16 +255,23 @@ static void observe_silence(const struct sight *sight)
 
 /* ---- Ranges ---- */
 
+static bool in_window(uint32_t first, uint64_t count)
+{
+    return first >= WINDOW_START && first + count <= WINDOW_START + WINDOW_BYTES;
+}
+
 static bool in_one_region(const struct sight *sight, uint32_t first, uint64_t count)
 {
     uint64_t end = first + count;
-    return end <= sight->main_size || (first >= SETTINGS_START && end <= (uint64_t)SETTINGS_START + SETTINGS_BYTES);
+    return end <= sight->main_size || in_window(first, count) ||
+           (first >= SETTINGS_START && end <= (uint64_t)SETTINGS_START + SETTINGS_BYTES);
 }
 
 static void observe_edges(const struct sight *sight, uint32_t first, uint32_t count)
 {
     uint8_t command = sight->core[0];
     uint64_t end = (uint64_t)first + count, settings_end = (uint64_t)SETTINGS_START + SETTINGS_BYTES;
+    uint64_t window_end = WINDOW_START + WINDOW_BYTES;
     const bool at[EDGES] = {[MAIN_FIRST] = first == 0 && end <= sight->main_size,
                             [MAIN_TO_END] = end == sight->main_size,
                             [MAIN_OVER_END] = first < sight->main_size && end > sight->main_size,
@@ -264,6 +281,11 @@ static void observe_edges(const struct sight *sight, uint32_t first, uint32_t co
                             [SETTINGS_TO_END] = first >= SETTINGS_START && end == settings_end,
                             [SETTINGS_OVER_END] = first >= SETTINGS_START && first < settings_end && end > settings_end,
                             [SETTINGS_AT_END] = first == settings_end,
+                            [WINDOW_OVER_START] = first < WINDOW_START && end > WINDOW_START && end <= window_end,
+                            [WINDOW_FIRST] = first == WINDOW_START && end <= window_end,
+                            [WINDOW_TO_END] = first >= WINDOW_START && end == window_end,
+                            [WINDOW_OVER_END] = first >= WINDOW_START && first < window_end && end > window_end,
+                            [WINDOW_AT_END] = first == window_end,
                             [PAST_2_32] = end > 0x100000000u};
     for (int edge = 0; edge < EDGES; edge++)
         if (at[edge])
@@ -386,6 +408,18 @@ static void observe_whole_program(const struct sight *sight, int outcome, uint32
     }
 }
 
+/* A Program that lies in the window. */
+static void observe_stored(const struct sight *sight, uint32_t first, uint32_t count)
+{
+    seen_if(first % 2 == 1, STORED_ODD);
+    seen_if(count % 2 == 1, STORED_ODD_COUNT);
+    seen_if(count == 1, STORED_ONE);
+    seen_if(count == CORE_LARGEST - 5, STORED_1716);
+    seen_if(sight->core[0] == 0x24, STORED_FAST);
+    seen_if(sight->found->and_differs, STORED_OVER);
+    seen_if(all_ff(sight->fields + PROTECTION_AT, 8) && settings_protected(sight), STORED_PROTECTED);
+}
+
 static void observe_program(const struct sight *sight, int outcome)
 {
     uint32_t first = read32(sight->core + 1), count = (uint32_t)sight->length - 5;
@@ -397,6 +431,10 @@ static void observe_program(const struct sight *sight, int outcome)
     if (!in_one_region(sight, first, count)) {
         seen_if(first < sight->main_size && sector_protected(sight, first / SECTOR),
                 sight->core[0] == 0x24 ? OUTSIDE_FAST : OUTSIDE_PROGRAM);
+        return;
+    }
+    if (in_window(first, count)) {
+        observe_stored(sight, first, count);
         return;
     }
     seen_if(!aligned && sight->found->bytes_written,
@@ -432,6 +470,7 @@ static void observe_range_erase(const struct sight *sight, int message)
     seen_if(start == end + 1 && start <= last, ERASE_BACKWARDS);
     seen_if(start <= last && end > last && sector_protected(sight, start / SECTOR), OUTSIDE_ERASE);
     seen_if(start <= last && end < start && sector_protected(sight, end / SECTOR), OUTSIDE_BACKWARDS);
+    seen_if(start <= end && in_window(start, (uint64_t)end - start + 1), WINDOW_ERASE);
     if (start <= end && end <= last)
         observe_whole_erase(sight, message, start, end);
 }
@@ -445,8 +484,11 @@ static bool shows_protected(const struct sight *sight)
 static void observe_read_back(const struct sight *sight, int outcome)
 {
     uint32_t count = read32(sight->core + 5);
+    bool window = in_window(read32(sight->core + 1), count);
     observe_edges(sight, read32(sight->core + 1), count);
     seen_if(outcome == OUTCOME_DATA && shows_protected(sight), PLACE_READ);
+    seen_if(outcome == OUTCOME_DATA && window, WINDOW_READ);
+    seen_if(outcome == 0x09 && window, WINDOW_READ_OFF);
     seen_if(count == 0 && outcome == 0x05, READ_0);
     seen_if(count == 1720 && outcome == OUTCOME_DATA, READ_1720);
     seen_if(count == 1721 && outcome == 0x05 && in_one_region(sight, read32(sight->core + 1), count), READ_1721);
@@ -454,9 +496,13 @@ static void observe_read_back(const struct sight *sight, int outcome)
 
 static void observe_verify(const struct sight *sight, int outcome)
 {
-    uint32_t count = read32(sight->core + 5);
-    observe_edges(sight, read32(sight->core + 1), count);
+    uint32_t first = read32(sight->core + 1), count = read32(sight->core + 5);
+    observe_edges(sight, first, count);
     seen_if(outcome == OUTCOME_DATA && shows_protected(sight), PLACE_VERIFY);
+    seen_if(outcome == 0x0B && in_window(first, count), WINDOW_VERIFY_SMALL);
+    seen_if(outcome == 0x05 && first == WINDOW_START && count == 1024, WINDOW_VERIFY_1024);
+    seen_if(outcome == 0x05 && first == WINDOW_START && count == WINDOW_BYTES, WINDOW_VERIFY_WHOLE);
+    seen_if(outcome == 0x05 && first == 0x20000000 && count == 1024, WINDOW_VERIFY_EXAMPLE);
     seen_if(count == 1023 && outcome == 0x0B, VERIFY_1023);
     seen_if(count == 1024 && outcome == OUTCOME_DATA, VERIFY_1024);
     seen_if(count == 65536 && outcome == OUTCOME_DATA, VERIFY_65536);
@@ -474,6 +520,7 @@ static void observe_alert(const struct sight *sight)
         return;
     seen(ALERT_RESET_MODE_0 + sight->fields[RESET_MODE_AT]);
     seen_if(has_skipped(sight), SECTOR_ALERT);
+    seen_if(!all_ff(sight->window, WINDOW_BYTES), WINDOW_ALERT);
     seen_if(settings_protected(sight) && !all_ff(sight->settings, SETTINGS_BYTES), SETTINGS_ALERT);
 }
 
@@ -507,6 +554,7 @@ static void observe_factory_reset(const struct sight *sight, int message)
         return;
     seen(mode == 2 ? FACTORY_RIGHT : sight->length == 1 ? FACTORY_OPEN : FACTORY_OPEN_17);
     seen_if(has_skipped(sight), SECTOR_FACTORY);
+    seen_if(!all_ff(sight->window, WINDOW_BYTES), WINDOW_FACTORY);
     seen_if(settings_protected(sight) && !all_ff(sight->settings, SETTINGS_BYTES), SETTINGS_FACTORY);
 }
 
@@ -531,6 +579,8 @@ static int judge_fast(const struct sight *sight)
     uint32_t first = read32(sight->core + 1), count = (uint32_t)sight->length - 5;
     if (!in_one_region(sight, first, count))
         return FAST_RANGE;
+    if (in_window(first, count))
+        return -1;
     if (first % 8 != 0 || count % 8 != 0)
         return FAST_ALIGNMENT;
     if (protection_of(sight, first, first + count - 1) != NOTHING)
@@ -588,8 +638,10 @@ static void observe_command(const struct sight *sight, int outcome)
         observe_unlock(sight, outcome);
     if (command == 0x19 && outcome == OUTCOME_DATA)
         observe_info(sight);
-    if (command == 0x15)
-        seen_if(outcome == 0x00 && has_skipped(sight), SECTOR_MASS);
+    if (command == 0x15 && outcome == 0x00) {
+        seen_if(has_skipped(sight), SECTOR_MASS);
+        seen_if(!all_ff(sight->window, WINDOW_BYTES), WINDOW_MASS);
+    }
     if (command == 0x30 && open)
         observe_factory_reset(sight, outcome);
     if (command == 0x23 && open)
@@ -628,12 +680,25 @@ static void observe_acknowledged(struct sight *sight, uint32_t reply_length)
     observe_command(sight, outcome);
 }
 
+static void observe_no_window(const struct sight *sight)
+{
+    int clause;
+    bool broken = sight->step->record_size != RECORD_BYTES || broken_clauses(sight, &clause) > 0;
+    seen_if(sight->step->window_size == WINDOW_BYTES - 1, WINDOW_SHORT);
+    seen_if(sight->step->window_size == WINDOW_BYTES + 1, WINDOW_LONG);
+    seen(broken ? CALL_11_AND_10 : NO_WINDOW_DETECT + sight->before[PHASE_AT]);
+}
+
 static void observe_session(struct sight *sight)
 {
     unsigned refusal = refusal_of(sight->answer);
     uint32_t reply_length = (uint32_t)sight->answer;
-    seen(refusal == 9 ? CALL_9 : refusal == 10 ? CALL_10 : CALL_TAKEN);
+    size_t window_size = sight->step->window_size;
+    seen(refusal == 9 ? CALL_9 : refusal == 10 ? CALL_10 : refusal == 11 ? CALL_11 : CALL_TAKEN);
     seen_if(refusal == 9 && sight->step->reply_size == 1728, REPLY_1728);
+    seen_if(refusal == 9 && window_size != WINDOW_BYTES, CALL_9_AND_11);
+    if (refusal == 11)
+        observe_no_window(sight);
     if (refusal == 10)
         observe_clause(sight);
     if (refusal != 0)
@@ -662,6 +727,7 @@ void observe(const struct step *step, const struct finding *found, const struct 
                           .reply = after->area[AREA_REPLY],
                           .main_flash = after->area[AREA_MAIN],
                           .settings = after->area[AREA_SETTINGS],
+                          .window = after->area[AREA_WINDOW],
                           .fields = before + RECORD_FIELDS_AT,
                           .answer = after->answer,
                           .main_size = read32(before + MAIN_SIZE_AT)};

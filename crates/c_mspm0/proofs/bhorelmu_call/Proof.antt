@@ -13,6 +13,7 @@ bhorelmu-call-spec =
     (λ c. search needs)
     (λ c. search needs)
     (λ c. search needs)
+    (λ c. search needs)
     (λ c.
-    let called = c .before .before .before .before .before .before .before .before in
-    rw (called .call-record .ensures, called .before .before .before .before .before .part .ensures)))
+    let called = c .before .before .before .before .before .before .before .before .before .before in
+    rw (called .call-record .ensures, called .before .before .before .before .before .before .part .ensures)))

@@ -67,9 +67,10 @@ startedBy told =
     pick (eqb (told .number) 0) start.Started
     (pick (eqb (told .number) 1) start.FuseSet
     (pick (eqb (told .number) 2) start.MainSizeWrong
-    (start.ImageRefused (refusedBy told))))
+    (pick (eqb (told .number) 11) start.WindowSizeWrong
+    (start.ImageRefused (refusedBy told)))))
 
--- a refused image has none of the numbers before 3
+-- a refused image has none of the numbers before 3, and not 11
 image-refused-back : (why : Refusal) → startedBy (refusalNumbered why) ≡ start.ImageRefused (refusedBy (refusalNumbered why))
 unfolding startedBy pick
 image-refused-back refusal.SizeWrong = refl
@@ -84,6 +85,7 @@ unfolding startedBy pick
 started-back start.Started = refl
 started-back start.FuseSet = refl
 started-back start.MainSizeWrong = refl
+started-back start.WindowSizeWrong = refl
 started-back (start.ImageRefused why) = image-refused-back why ∙ ap start.ImageRefused (refused-back why)
 
 -- ---- a call
@@ -91,13 +93,15 @@ started-back (start.ImageRefused why) = image-refused-back why ∙ ap start.Imag
 unfoldable pub calledBy : CallTold → CallAnswer
 calledBy told =
     pick (eqb (told .number) 9) call.ReplyAreaTooSmall
+    (pick (eqb (told .number) 11) call.WindowSizeWrong
     (pick (eqb (told .number) 10) call.RecordNotValid
-    (call.Done (told .size) (told .burn)))
+    (call.Done (told .size) (told .burn))))
 
 pub called-back : (answer : CallAnswer) → calledBy (callNumbered answer) ≡ answer
 unfolding calledBy pick
 called-back (call.Done size burn) = refl
 called-back call.ReplyAreaTooSmall = refl
+called-back call.WindowSizeWrong = refl
 called-back call.RecordNotValid = refl
 
 -- ---- script::read_script

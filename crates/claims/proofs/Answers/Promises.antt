@@ -202,8 +202,8 @@ pub locate-is-one : (part : Part) (mainSize : ℕ) (protection : List ℕ) (sett
 locate-is-one part mainSize protection settingsProtected first count = as-said (placeOf part mainSize protection settingsProtected first count)
 
 -- of the slice that comes back, the bytes
-pub bytes-in-is-one : (region : Region) (offset size : ℕ) (main image : List ℕ) → OneAnswer (λ r. r ≡ bytesIn offset size (memory main image) region)
-bytes-in-is-one region offset size main image = as-said (bytesIn offset size (memory main image) region)
+pub bytes-in-is-one : (region : Region) (offset size : ℕ) (main image window : List ℕ) → OneAnswer (λ r. r ≡ bytesIn offset size (memory main image window) region)
+bytes-in-is-one region offset size main image window = as-said (bytesIn offset size (memory main image window) region)
 
 -- ---- flash: sectors
 
@@ -221,11 +221,11 @@ program-is-one memory sectorSize protection at bytes = as-said (programOf sector
 
 -- ---- session: its start
 
-pub start-is-one : (part : Part) (fuse : Bool) (main image : List ℕ) → OneAnswer (λ r. startTold r ≡ startOf part fuse main image)
-start-is-one part fuse main image =
+pub start-is-one : (part : Part) (fuse : Bool) (main image window : List ℕ) → OneAnswer (λ r. startTold r ≡ startOf part fuse main image window)
+start-is-one part fuse main image window =
     given-back startTold (λ told. record { answer = startedBy (told .answer); session = told .session })
     (λ r. ap (λ answer. record { answer = answer; session = r .session }) (started-back (r .answer)))
-    (startOf part fuse main image)
+    (startOf part fuse main image window)
 
 -- ---- session_judge
 
@@ -234,60 +234,60 @@ judge-is-one lastRate standing alert wait packet right = as-said (judgedOf lastR
 
 -- ---- session_act
 
-pub plan-is-one : (part : Part) (effect : Effect) (shown : Shown) (mainSize : ℕ) (protection : List ℕ) (right : Bool) (main image : List ℕ)
-    → OneAnswer (λ r. r ≡ planOf part mainSize shown protection right (memory main image) effect)
-plan-is-one part effect shown mainSize protection right main image = as-said (planOf part mainSize shown protection right (memory main image) effect)
+pub plan-is-one : (part : Part) (effect : Effect) (shown : Shown) (mainSize : ℕ) (protection : List ℕ) (right : Bool) (main image window : List ℕ)
+    → OneAnswer (λ r. r ≡ planOf part mainSize shown protection right (memory main image window) effect)
+plan-is-one part effect shown mainSize protection right main image window = as-said (planOf part mainSize shown protection right (memory main image window) effect)
 
-pub carry-out-is-one : (part : Part) (order : Order) (shown : Shown) (protection packet main image : List ℕ)
-    → OneAnswer {A = List ℕ × List ℕ} (λ r. memory (r .0) (r .1) ≡ carriedOut part shown protection packet (memory main image) order)
-carry-out-is-one part order shown protection packet main image =
-    given-back (λ r. memory (r .0) (r .1)) (λ after. (after .main, after .settings)) (λ r. refl)
-    (carriedOut part shown protection packet (memory main image) order)
+pub carry-out-is-one : (part : Part) (order : Order) (shown : Shown) (protection packet main image window : List ℕ)
+    → OneAnswer {A = List ℕ × List ℕ × List ℕ} (λ r. memory (r .0) (r .1) (r .2) ≡ carriedOut part shown protection packet (memory main image window) order)
+carry-out-is-one part order shown protection packet main image window =
+    given-back (λ r. memory (r .0) (r .1) (r .2)) (λ after. (after .main, after .settings, after .window)) (λ r. refl)
+    (carriedOut part shown protection packet (memory main image window) order)
 
 -- ---- session_send
 
-pub answer-is-one : (reply : Reply) (region : Region) (offset count : ℕ) (packet main image area : List ℕ)
-    → OneAnswer {A = ℕ × List ℕ} (λ r. sent (r .0) (r .1) ≡ answerOf reply region offset count packet (memory main image) area)
-answer-is-one reply region offset count packet main image area = sent-is-one (answerOf reply region offset count packet (memory main image) area)
+pub answer-is-one : (reply : Reply) (region : Region) (offset count : ℕ) (packet main image window area : List ℕ)
+    → OneAnswer {A = ℕ × List ℕ} (λ r. sent (r .0) (r .1) ≡ answerOf reply region offset count packet (memory main image window) area)
+answer-is-one reply region offset count packet main image window area = sent-is-one (answerOf reply region offset count packet (memory main image window) area)
 
 -- ---- session: its calls
 
-pub call-is-one : (part : Part) (session : Session) (main image : List ℕ) (wait : ℕ) (packet area : List ℕ)
-    → OneAnswer {A = Called × List ℕ × List ℕ × List ℕ}
-    (λ r. callLeft (r .0) (memory (r .1) (r .2)) (r .3) ≡ callOf part session (memory main image) wait packet area)
-call-is-one part session main image wait packet area =
-    given-back (λ r. callLeft (r .0) (memory (r .1) (r .2)) (r .3))
-    (λ l. (record { answer = calledBy (l .answer); session = l .session }, l .memory .main, l .memory .settings, l .area))
-    (λ r. ap (λ answer. (record { answer = answer; session = r .0 .session }, r .1, r .2, r .3)) (called-back (r .0 .answer)))
-    (callOf part session (memory main image) wait packet area)
+pub call-is-one : (part : Part) (session : Session) (main image window : List ℕ) (wait : ℕ) (packet area : List ℕ)
+    → OneAnswer {A = Called × List ℕ × List ℕ × List ℕ × List ℕ}
+    (λ r. callLeft (r .0) (memory (r .1) (r .2) (r .3)) (r .4) ≡ callOf part session (memory main image window) wait packet area)
+call-is-one part session main image window wait packet area =
+    given-back (λ r. callLeft (r .0) (memory (r .1) (r .2) (r .3)) (r .4))
+    (λ l. (record { answer = calledBy (l .answer); session = l .session }, l .memory .main, l .memory .settings, l .memory .window, l .area))
+    (λ r. ap (λ answer. (record { answer = answer; session = r .0 .session }, r .1, r .2, r .3, r .4)) (called-back (r .0 .answer)))
+    (callOf part session (memory main image window) wait packet area)
 
 -- ---- mspm0
 
-pub mspm0-start-is-one : (fuse : Bool) (main image : List ℕ) → OneAnswer (λ r. startTold r ≡ startOf mspm0 fuse main image)
+pub mspm0-start-is-one : (fuse : Bool) (main image window : List ℕ) → OneAnswer (λ r. startTold r ≡ startOf mspm0 fuse main image window)
 mspm0-start-is-one = start-is-one mspm0
 
-pub mspm0-call-is-one : (session : Session) (main image : List ℕ) (wait : ℕ) (packet area : List ℕ)
-    → OneAnswer {A = Called × List ℕ × List ℕ × List ℕ}
-    (λ r. callLeft (r .0) (memory (r .1) (r .2)) (r .3) ≡ callOf mspm0 session (memory main image) wait packet area)
+pub mspm0-call-is-one : (session : Session) (main image window : List ℕ) (wait : ℕ) (packet area : List ℕ)
+    → OneAnswer {A = Called × List ℕ × List ℕ × List ℕ × List ℕ}
+    (λ r. callLeft (r .0) (memory (r .1) (r .2) (r .3)) (r .4) ≡ callOf mspm0 session (memory main image window) wait packet area)
 mspm0-call-is-one = call-is-one mspm0
 
 -- ---- session_in_place
 
-pub in-place-start-is-one : (session : Session) (fuse : Bool) (main image : List ℕ)
-    → OneAnswer {A = StartAnswer × Session} (λ r. startLeft (startNumbered (r .0)) (r .1) ≡ startInPlace session fuse main image)
-in-place-start-is-one session fuse main image =
+pub in-place-start-is-one : (session : Session) (fuse : Bool) (main image window : List ℕ)
+    → OneAnswer {A = StartAnswer × Session} (λ r. startLeft (startNumbered (r .0)) (r .1) ≡ startInPlace session fuse main image window)
+in-place-start-is-one session fuse main image window =
     given-back (λ r. startLeft (startNumbered (r .0)) (r .1)) (λ told. (startedBy (told .answer), told .session))
     (λ r. ap (λ answer. (answer, r .1)) (started-back (r .0)))
-    (startInPlace session fuse main image)
+    (startInPlace session fuse main image window)
 
-pub in-place-call-is-one : (session : Session) (main image : List ℕ) (wait : ℕ) (packet area : List ℕ)
-    → OneAnswer {A = CallAnswer × Session × List ℕ × List ℕ × List ℕ}
-    (λ r. left (callNumbered (r .0)) (r .1) (memory (r .2) (r .3)) (r .4) ≡ callOf mspm0 session (memory main image) wait packet area)
-in-place-call-is-one session main image wait packet area =
-    given-back (λ r. left (callNumbered (r .0)) (r .1) (memory (r .2) (r .3)) (r .4))
-    (λ l. (calledBy (l .answer), l .session, l .memory .main, l .memory .settings, l .area))
-    (λ r. ap (λ answer. (answer, r .1, r .2, r .3, r .4)) (called-back (r .0)))
-    (callOf mspm0 session (memory main image) wait packet area)
+pub in-place-call-is-one : (session : Session) (main image window : List ℕ) (wait : ℕ) (packet area : List ℕ)
+    → OneAnswer {A = CallAnswer × Session × List ℕ × List ℕ × List ℕ × List ℕ}
+    (λ r. left (callNumbered (r .0)) (r .1) (memory (r .2) (r .3) (r .4)) (r .5) ≡ callOf mspm0 session (memory main image window) wait packet area)
+in-place-call-is-one session main image window wait packet area =
+    given-back (λ r. left (callNumbered (r .0)) (r .1) (memory (r .2) (r .3) (r .4)) (r .5))
+    (λ l. (calledBy (l .answer), l .session, l .memory .main, l .memory .settings, l .memory .window, l .area))
+    (λ r. ap (λ answer. (answer, r .1, r .2, r .3, r .4, r .5)) (called-back (r .0)))
+    (callOf mspm0 session (memory main image window) wait packet area)
 
 -- ---- c_records: numbers
 
@@ -310,17 +310,17 @@ write-image-is-one fields image = stored-is-one (writeFromC fields image)
 
 -- ---- c_records: sessions
 
-pub start-record-is-one : (part : Part) (fuse : ℕ) (main settings area : List ℕ)
-    → OneAnswer {A = ℕ × List ℕ} (λ r. stored (r .0) (r .1) ≡ rig.startFromC part fuse main settings area)
-start-record-is-one part fuse main settings area = stored-is-one (rig.startFromC part fuse main settings area)
+pub start-record-is-one : (part : Part) (fuse : ℕ) (main settings window area : List ℕ)
+    → OneAnswer {A = ℕ × List ℕ} (λ r. stored (r .0) (r .1) ≡ rig.startFromC part fuse main settings window area)
+start-record-is-one part fuse main settings window area = stored-is-one (rig.startFromC part fuse main settings window area)
 
-pub call-record-is-one : (part : Part) (area main settings : List ℕ) (wait : ℕ) (packet reply : List ℕ)
-    → OneAnswer {A = ℕ × List ℕ × List ℕ × List ℕ × List ℕ}
-    (λ r. rig.called (r .0) (r .1) (memory (r .2) (r .3)) (r .4) ≡ rig.callFromC part area (memory main settings) wait packet reply)
-call-record-is-one part area main settings wait packet reply =
-    given-back (λ r. rig.called (r .0) (r .1) (memory (r .2) (r .3)) (r .4))
-    (λ l. (l .answer, l .area, l .memory .main, l .memory .settings, l .reply)) (λ r. refl)
-    (rig.callFromC part area (memory main settings) wait packet reply)
+pub call-record-is-one : (part : Part) (area main settings window : List ℕ) (wait : ℕ) (packet reply : List ℕ)
+    → OneAnswer {A = ℕ × List ℕ × List ℕ × List ℕ × List ℕ × List ℕ}
+    (λ r. rig.called (r .0) (r .1) (memory (r .2) (r .3) (r .4)) (r .5) ≡ rig.callFromC part area (memory main settings window) wait packet reply)
+call-record-is-one part area main settings window wait packet reply =
+    given-back (λ r. rig.called (r .0) (r .1) (memory (r .2) (r .3) (r .4)) (r .5))
+    (λ l. (l .answer, l .area, l .memory .main, l .memory .settings, l .memory .window, l .reply)) (λ r. refl)
+    (rig.callFromC part area (memory main settings window) wait packet reply)
 
 -- ---- c_mspm0
 
@@ -333,13 +333,13 @@ bhorelmu-settings-read-is-one = read-image-is-one
 pub bhorelmu-settings-write-is-one : (fields image : List ℕ) → OneAnswer {A = ℕ × List ℕ} (λ r. stored (r .0) (r .1) ≡ writeFromC fields image)
 bhorelmu-settings-write-is-one = write-image-is-one
 
-pub bhorelmu-start-is-one : (fuse : ℕ) (main settings area : List ℕ)
-    → OneAnswer {A = ℕ × List ℕ} (λ r. stored (r .0) (r .1) ≡ rig.startFromC mspm0 fuse main settings area)
+pub bhorelmu-start-is-one : (fuse : ℕ) (main settings window area : List ℕ)
+    → OneAnswer {A = ℕ × List ℕ} (λ r. stored (r .0) (r .1) ≡ rig.startFromC mspm0 fuse main settings window area)
 bhorelmu-start-is-one = start-record-is-one mspm0
 
-pub bhorelmu-call-is-one : (area main settings : List ℕ) (wait : ℕ) (packet reply : List ℕ)
-    → OneAnswer {A = ℕ × List ℕ × List ℕ × List ℕ × List ℕ}
-    (λ r. rig.called (r .0) (r .1) (memory (r .2) (r .3)) (r .4) ≡ rig.callFromC mspm0 area (memory main settings) wait packet reply)
+pub bhorelmu-call-is-one : (area main settings window : List ℕ) (wait : ℕ) (packet reply : List ℕ)
+    → OneAnswer {A = ℕ × List ℕ × List ℕ × List ℕ × List ℕ × List ℕ}
+    (λ r. rig.called (r .0) (r .1) (memory (r .2) (r .3) (r .4)) (r .5) ≡ rig.callFromC mspm0 area (memory main settings window) wait packet reply)
 bhorelmu-call-is-one = call-record-is-one mspm0
 
 -- ---- runner_text: scripts

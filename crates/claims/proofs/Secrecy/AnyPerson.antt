@@ -102,7 +102,7 @@ module _ (part : Part) (sound : Sound part) where
         )
 
   -- a board that starts: its record says that it is locked, and its flash is as claimed
-  module _ (images : Images) (area : List ℕ) (lent : Lent images area) (starts : startOf part false (images .main) (images .settings) .answer .number ≡ 0) where
+  module _ (images : Images) (area : List ℕ) (lent : Lent images area) (starts : startOf part false (images .main) (images .settings) (images .window) .answer .number ≡ 0) where
     starts-as-claimed : (lockIn (startedFromC part images area .area) ≡ 0) × Flash part images (wrongIn (startedFromC part images area .area)) (startedFromC part images area .memory)
     unfolding recordOf
     starts-as-claimed =

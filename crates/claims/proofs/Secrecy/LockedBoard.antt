@@ -24,7 +24,7 @@ use Rattle.session.specs.declared.Session.{Session}
 use Rattle.session.specs.Records.{isRecord}
 use Rattle.session.specs.Starting.{startOf}
 use Rattle.claims.specs.TwoBoards.{Images, Running, settingsOf, started, isStruck, AsClaimed, Flash}
-use Rattle.claims.proofs.Sessions.CallRules.{started-session, started-is-valid}
+use Rattle.claims.proofs.Sessions.CallRules.{started-session, started-has-window, started-is-valid}
 
 -- ---- an image, before the alert has struck and after
 
@@ -71,11 +71,12 @@ module _ (part : Part) where
   abbrev pub lets : Images → Board
   lets images = board part (length (images .main)) (settingsOf images .shown) (settingsOf images .protection)
 
-  -- its images, and all of it
+  -- its images and its window, and all of it
   abbrev pub memoryThen : Images → Bool → Memory
   memoryThen images struck =
       memory (imageThen (part .«sector_size») struck (settingsOf images .protection) (images .main))
       (imageThen (part .«sector_size») struck (settingsProtection (settingsOf images .shown)) (images .settings))
+      (images .window)
 
   abbrev pub later : Images → Standing → Running
   later images standing =
@@ -85,18 +86,24 @@ module _ (part : Part) where
   abbrev pub HasRecord : Running → Type 0
   HasRecord board = isRecord part (board .session) (length (board .memory .main)) (length (board .memory .settings)) ≡ true
 
+  -- a window of the part's size is beside them
+  abbrev pub HasWindow : Running → Type 0
+  HasWindow board = length (board .memory .window) ≡ part .«window_size»
+
   -- a board that stands locked, in a valid record
   pub record Locked (images : Images) (standing : Standing) : Type 0 where
     pub valid : HasRecord (later images standing)
+    pub window : HasWindow (later images standing)
     pub shut : isUnlocked (standing .phase) ≡ false
 
   module _ (images : Images) where
-    -- a strike erases both images, whether it is the first or not
+    -- a strike erases both images, whether it is the first or not, and leaves the window
     pub strike-erases : (packet : List ℕ) (struck : Bool)
         → carriedOut part (settingsOf images .shown) (settingsOf images .protection) packet (memoryThen images struck) EraseBoth ≡ memoryThen images true
-    strike-erases packet struck = ap₂ memory (struck-again _ _ _ struck) (struck-again _ _ _ struck)
+    strike-erases packet struck =
+        ap₂ (λ (main settings : List ℕ). memory main settings (images .window)) (struck-again _ _ _ struck) (struck-again _ _ _ struck)
 
-    -- what is claimed of a board's flash after a call
+    -- what is claimed of a board's flash after a call, and of its window; T-05: "the window may differ between the boards, and it stays unchanged there."
     pub flash-is-as-claimed : (standing : Standing) → Flash part images (standing .wrong) (later images standing .memory)
     flash-is-as-claimed standing =
         record {
@@ -104,6 +111,7 @@ module _ (part : Part) where
           main = image-is-as-claimed _ _ _ _;
           settingsSize = image-keeps-length _ _ _ _;
           settings = image-is-as-claimed _ _ _ _;
+          window = refl;
         }
 
     -- a session that starts has counted no wrong password
@@ -111,16 +119,20 @@ module _ (part : Part) where
     unfolding isStruck atStart
     not-struck-at-start = by-test (eqb (alertOf images) alertReset) (λ y. pick-true _ _ y) (λ n. pick-false _ _ n)
 
-    module _ (starts : startOf part false (images .main) (images .settings) .answer .number ≡ 0) where
+    module _ (starts : startOf part false (images .main) (images .settings) (images .window) .answer .number ≡ 0) where
       -- it is as at the start, locked and in a valid record
       pub started-is-later : started part images ≡ later images atStart
       unfolding imageThen pick
       started-is-later =
           ap₂ (λ (session : Session) (images : Memory). record { session = session; memory = images })
-          (started-session part false (images .main) (images .settings) starts)
+          (started-session part false (images .main) (images .settings) (images .window) starts)
           (ap (memoryThen images) (sym not-struck-at-start))
 
       pub started-is-locked : Sound part → Locked images atStart
       unfolding atStart
       started-is-locked sound =
-          record { valid = subst HasRecord started-is-later (started-is-valid part false (images .main) (images .settings) sound starts); shut = refl }
+          record {
+            valid = subst HasRecord started-is-later (started-is-valid part false (images .main) (images .settings) (images .window) sound starts);
+            window = started-has-window part false (images .main) (images .settings) (images .window) starts;
+            shut = refl;
+          }

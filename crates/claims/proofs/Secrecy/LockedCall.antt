@@ -120,7 +120,7 @@ module _ (part : Part) where
       pub call-is : called part (later part images standing) sending area ≡ leftThen images standing sending area (verdict images standing sending)
       unfolding serveOf
       call-is =
-          valid-is-served part (sessionThen images standing) (later part images standing .memory) (sending .wait) (sending .packet) area (locked .valid) room
+          valid-is-served part (sessionThen images standing) (later part images standing .memory) (sending .wait) (sending .packet) area (locked .valid) (locked .window) room
           ∙ ap (followed part (sessionThen images standing) (later part images standing .memory) (sending .packet) area) judged-as-wrong
           ∙ ap₂ (λ (sent : Sent) (after : Memory). left (callTold 0 (sent .size) (decided .burn)) (sessionThen images (decided .standing)) after (sent .area))
           told-whole memory-follows
@@ -138,5 +138,6 @@ module _ (part : Part) where
         valid =
             subst (λ (left : Left). HasRecord part (next left)) call-is
             (valid-stays-valid part (sessionThen images standing) (later part images standing .memory) (sending .wait) (sending .packet) area sound (locked .valid));
+        window = locked .window;
         shut = stays-shut;
       }

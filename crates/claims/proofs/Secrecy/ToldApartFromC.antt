@@ -33,9 +33,9 @@ use Rattle.c_records.specs.Boundary.{Called, storedAfter, calledFrom, calledAft
 use Rattle.claims.specs.Held.{Held}
 use Rattle.claims.specs.TwoBoards.{Images, Running, started, AlikeBoards, Sending, called, next, replied, Flash, Alike, AlikeThroughout}
 use Rattle.claims.specs.TwoBoardsFromC.{RunningFromC, startedOn, startedFromC, Lent, calledFromC, repliedFromC, standsFromC, lockIn, AlikeFromC, AlikeCallsFromC, AlikeSessionsFromC}
-use Rattle.claims.proofs.Sessions.CallRules.{every-start, valid-is-served, valid-stays-valid, started-is-valid, started-session}
+use Rattle.claims.proofs.Sessions.CallRules.{every-start, call-keeps-lengths, valid-is-served, valid-stays-valid, started-is-valid, started-session, started-has-window}
 use Rattle.claims.proofs.Sessions.RecordRule.{decode-after-encode, encoded-is-record}
-use Rattle.claims.proofs.Secrecy.LockedBoard.{HasRecord}
+use Rattle.claims.proofs.Secrecy.LockedBoard.{HasRecord, HasWindow}
 use Rattle.claims.proofs.Settings.HeldSettings.{read-is-held}
 use Rattle.claims.proofs.Sessions.HeldSessions.{valid-is-held}
 use Rattle.claims.proofs.Secrecy.ToldApart.{two-boards-are-alike}
@@ -94,6 +94,7 @@ module _ (part : Part) (sound : Sound part) where
   -- a board whose record is valid, and whose settings can be held
   record Fine (board : Running) : Type 0 where
     valid : HasRecord part board
+    window : HasWindow part board
     held : Held (board .session .settings)
 
   module _ (board : Running) (fine : Fine board) (sending : Sending) (reply : List ℕ) where
@@ -104,6 +105,7 @@ module _ (part : Part) (sound : Sound part) where
     unfolding serveOf
     fine-then = record {
       valid = valid-stays-valid part (board .session) (board .memory) (sending .wait) (sending .packet) reply sound (fine .valid);
+      window = call-keeps-lengths part (board .session) (board .memory) (sending .wait) (sending .packet) reply .window ∙ fine .window;
       held =
           every-call part (board .session) (board .memory) (sending .wait) (sending .packet) reply (λ left. Held (left .session .settings))
           (λ number. fine .held) (fine .held);
@@ -114,7 +116,7 @@ module _ (part : Part) (sound : Sound part) where
       unfolding serveOf
       served =
           ap (λ (left : Left). left .answer .number)
-          (valid-is-served part (board .session) (board .memory) (sending .wait) (sending .packet) reply (fine .valid) room)
+          (valid-is-served part (board .session) (board .memory) (sending .wait) (sending .packet) reply (fine .valid) (fine .window) room)
 
       -- a call from C does what the call on the session does
       call-from-C : calledFromC part (fromC board) sending reply ≡ leftFromC after
@@ -122,6 +124,7 @@ module _ (part : Part) (sound : Sound part) where
       call-from-C =
           let held = valid-is-held part sound (board .session) _ _ (fine .valid) (fine .held) in
           pick-false _ _ (le-ltb (length reply) replyLimit room)
+          ∙ pick-false _ _ (ap not (eq-eqb _ _ (fine .window)))
           ∙ pick-false _ _ (ap not (encoded-is-record (board .session) held))
           ∙ ap (λ (session : Session). calledAfter (recordOf (board .session)) (callOf part session (board .memory) (sending .wait) (sending .packet) reply))
           (decode-after-encode (board .session) held)
@@ -173,26 +176,27 @@ module _ (part : Part) (sound : Sound part) where
   -- ---- start
 
   -- a start that answers 0 names no entry, and its settings were accepted
-  start-accepts : (main settings : List ℕ) → startOf part false main settings .answer .number ≡ 0
-      → (startOf part false main settings .answer ≡ numbered 0 0) × (readOf form1 settings .number ≡ 0)
-  start-accepts main settings =
-      every-start part false main settings (λ told. (told .answer ≡ numbered 0 0) × (readOf form1 settings .number ≡ 0)) (λ size read. (refl, read))
+  start-accepts : (main settings window : List ℕ) → startOf part false main settings window .answer .number ≡ 0
+      → (startOf part false main settings window .answer ≡ numbered 0 0) × (readOf form1 settings .number ≡ 0)
+  start-accepts main settings window =
+      every-start part false main settings window (λ told. (told .answer ≡ numbered 0 0) × (readOf form1 settings .number ≡ 0)) (λ size lent read. (refl, read))
 
-  module _ (images : Images) (area : List ℕ) (lent : Lent images area) (starts : startOf part false (images .main) (images .settings) .answer .number ≡ 0) where
+  module _ (images : Images) (area : List ℕ) (lent : Lent images area) (starts : startOf part false (images .main) (images .settings) (images .window) .answer .number ≡ 0) where
     start-from-C : startedOn part images area ≡ stored 0 (recordOf (started part images .session))
     unfolding storedBy pick
     start-from-C =
-        rw (start-accepts (images .main) (images .settings) starts .0, eq-eqb (length area) recordSize (lent .size))
+        rw (start-accepts (images .main) (images .settings) (images .window) starts .0, eq-eqb (length area) recordSize (lent .size))
 
     pub started-from-C : startedFromC part images area ≡ fromC (started part images)
     started-from-C = ap (λ (left : Stored). record { area = left .area; memory = images }) start-from-C
 
     started-is-fine : Fine (started part images)
     started-is-fine = record {
-      valid = started-is-valid part false (images .main) (images .settings) sound starts;
+      valid = started-is-valid part false (images .main) (images .settings) (images .window) sound starts;
+      window = started-has-window part false (images .main) (images .settings) (images .window) starts;
       held =
-          rw (started-session part false (images .main) (images .settings) starts)
-          (read-is-held (images .settings) (lent .bytes) (start-accepts (images .main) (images .settings) starts .1));
+          rw (started-session part false (images .main) (images .settings) (images .window) starts)
+          (read-is-held (images .settings) (lent .bytes) (start-accepts (images .main) (images .settings) (images .window) starts .1));
     }
 
   -- over any one session from C of two boards of one sound part, at every point of it
@@ -205,7 +209,7 @@ module _ (part : Part) (sound : Sound part) where
         oneStarts = ap (λ (left : Stored). left .answer) oneIs;
         otherStarts = ap (λ (left : Stored). left .answer) otherIs;
         stands =
-            rw (oneIs, otherIs, started-session part false (one .main) (one .settings) (alike .oneStarts), started-session part false (other .main) (other .settings) (alike .otherStarts))
+            rw (oneIs, otherIs, started-session part false (one .main) (one .settings) (one .window) (alike .oneStarts), started-session part false (other .main) (other .settings) (other .window) (alike .otherStarts))
             (stands-alike _ _ refl (alike .size));
         calls =
             rw (started-from-C one oneArea oneLent (alike .oneStarts), started-from-C other otherArea otherLent (alike .otherStarts))

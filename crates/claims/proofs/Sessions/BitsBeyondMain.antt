@@ -6,7 +6,7 @@ use Prim.Native.Nat.{ℕ, _+_, _-_, _*_, _/_, _<_}
 use native.Mathlib.Nat.{div-mul-le-self}
 use native.Mathlib.Omega.{arith}
 use borrow.Author.Tests.{not-false}
-use lib.Dec.{ltb}
+use lib.Dec.{ltb, eqb}
 use lib.ListN.{length}
 use Rattle.octets.specs.Choice.{pick}
 use Rattle.octets.proofs.Searching.{pick-true, pick-false, by-test, by-pick}
@@ -31,13 +31,13 @@ use Rattle.session_judge.specs.declared.Effect.{Effect}
 use Rattle.session_judge.specs.declared.Effect.the-variants.{Say, TellInfo, Strike, Perform}
 use Rattle.session_judge.specs.declared.Judged.{Judged}
 use Rattle.session_act.specs.declared.Order.{Order}
-use Rattle.session_act.specs.declared.Order.the-variants.{Keep, EraseBetween, EraseMain, EraseBoth, ProgramMain, ProgramSettings}
+use Rattle.session_act.specs.declared.Order.the-variants.{Keep, EraseBetween, EraseMain, EraseBoth, ProgramMain, ProgramSettings, StoreWindow}
 use Rattle.session_act.specs.declared.Planned.{Planned}
 use Rattle.session_act.specs.Board.{acted, board, settingsProtection}
 use Rattle.session_act.specs.Orders.{carriedOut}
 use Rattle.session_act.specs.Plans.{says, tells, orders}
 use Rattle.session_act.specs.Erasing.{rangeEraseAt, rangeErase}
-use Rattle.session_act.specs.Programming.{isOutside, isAligned, writtenIn, programIn, programAt, program}
+use Rattle.session_act.specs.Programming.{isOutside, isWindow, isAligned, writtenIn, programIn, programAt, program}
 use Rattle.session_act.specs.Showing.{readBackAt, verifyAt}
 use Rattle.session_act.specs.Acting.{taskPlanned, planOf, actOf}
 use Rattle.session.specs.declared.Session.{Session}
@@ -71,12 +71,13 @@ module _ (part : Part) where
     order-same : (packet : List ℕ) (order : Order) → carriedOut part shown bits packet before order ≡ carriedOut part shown others packet before order
     order-same packet Keep = refl
     order-same packet (EraseBetween start end) =
-        ap (λ (main : List ℕ). memory main (before .settings)) (erased-same (start / part .«sector_size») (end / part .«sector_size»))
-    order-same packet EraseMain = ap (λ (main : List ℕ). memory main (before .settings)) all-erased-same
+        ap (λ (main : List ℕ). memory main (before .settings) (before .window)) (erased-same (start / part .«sector_size») (end / part .«sector_size»))
+    order-same packet EraseMain = ap (λ (main : List ℕ). memory main (before .settings) (before .window)) all-erased-same
     order-same packet EraseBoth =
-        ap (λ (main : List ℕ). memory main (eraseAllOf (part .«sector_size») (settingsProtection shown) (before .settings))) all-erased-same
-    order-same packet (ProgramMain offset size) = ap (λ (main : List ℕ). memory main (before .settings)) (programmed-same offset (dataIn size packet))
+        ap (λ (main : List ℕ). memory main (eraseAllOf (part .«sector_size») (settingsProtection shown) (before .settings)) (before .window)) all-erased-same
+    order-same packet (ProgramMain offset size) = ap (λ (main : List ℕ). memory main (before .settings) (before .window)) (programmed-same offset (dataIn size packet))
     order-same packet (ProgramSettings offset size) = refl
+    order-same packet (StoreWindow offset size) = refl
 
     -- a range has the same place, and a command the same plan
     place-same : (first count : ℕ) → placeOf part mainSize bits (shown .«settings_protected») first count ≡ placeOf part mainSize others (shown .«settings_protected») first count
@@ -98,7 +99,8 @@ module _ (part : Part) where
         let b = within-bounds mainStart mainSize address size y in
         words-alike (part .«sector_size») bits others (part .«word_size») (address - mainStart) size (before .main)
         (λ place h. agree (place / part .«sector_size») (omega (arith, div-mul-le-self place (part .«sector_size»), h, b, whole))))
-        (λ n. by-pick (WordsAlike size) (liesWithin (part .«settings_start») (part .«settings_size») address size) _ _ (λ y. refl) (λ o. refl))
+        (λ n. by-pick (WordsAlike size) (liesWithin (part .«settings_start») (part .«settings_size») address size) _ _ (λ y. refl)
+        (λ o. by-pick (WordsAlike size) (liesWithin (part .«window_start») (part .«window_size») address size) _ _ (λ y. refl) (λ v. refl)))
 
     program-same : (address size : ℕ) → program part mainSize bits (shown .«settings_protected») address size before
         ≡ program part mainSize others (shown .«settings_protected») address size before
@@ -108,10 +110,11 @@ module _ (part : Part) where
         ap (programAt part bits (shown .«settings_protected») address size before) (place-same address size)
         ∙ ap (λ (written : Bool).
         pick (isOutside (place .region)) (tells codes.invalidRange)
+        (pick (isWindow (place .region)) (orders codes.success (programIn (place .offset) size (place .region)))
         (pick (isAligned (part .«word_size») address size)
         (pick (place .«is_protected») (tells codes.invalidRange)
         (pick written (says FlashError) (orders codes.success (programIn (place .offset) size (place .region)))))
-        (tells codes.notAligned)))
+        (tells codes.notAligned))))
         (words-same address size)
 
     task-same : (right : Bool) (task : Guarded) → taskPlanned part mainSize shown bits right before task ≡ taskPlanned part mainSize shown others right before task
@@ -169,7 +172,7 @@ module _ (part : Part) where
         (plan-same _ _ bits (session .settings .protection) before agree whole _ (judged .effect))
         (act-same _ _ bits (session .settings .protection) before agree whole _ packet (judged .effect))
 
-    -- the answer, how the session stands, both images and the reply area are the same; the bits are kept
+    -- the answer, how the session stands, both images, the window and the reply area are the same; the bits are kept
     pub bits-beyond-main-have-no-effect : callOf part (withBits bits session) before wait packet area ≡ leftWithBits bits (callOf part session before wait packet area)
     unfolding callOf isRecord
     bits-beyond-main-have-no-effect =
@@ -177,7 +180,12 @@ module _ (part : Part) where
         (λ y. pick-true _ _ y ∙ sym (ap (leftWithBits bits) (pick-true _ _ y)))
         (λ n.
         pick-false _ _ n
+        ∙ by-test (not (eqb (length (before .window)) (part .«window_size»)))
+        (λ y. pick-true _ _ y ∙ sym (ap (leftWithBits bits) (pick-true _ _ y)))
+        (λ w.
+        pick-false _ _ w
         ∙ by-test (not (isRecord part session (length (before .main)) (length (before .settings))))
         (λ y. pick-true _ _ y ∙ sym (ap (leftWithBits bits) (pick-true _ _ y)))
         (λ m. pick-false _ _ m ∙ served-same (record-by-clauses part session (length (before .main)) (length (before .settings)) (not-false _ m) .main) ∙ sym (ap (leftWithBits bits) (pick-false _ _ m)))
+        ∙ sym (ap (leftWithBits bits) (pick-false _ _ w)))
         ∙ sym (ap (leftWithBits bits) (pick-false _ _ n)))

@@ -47,9 +47,9 @@ storing-keeps told size bytes area =
     by-pick (Kept area) (not (eqb (refusalOf told) 0)) _ _ (λ y h. refl)
     (λ n. by-pick (Kept area) (not (eqb (length area) size)) _ _ (λ y h. refl) (λ m h. absurd (omega arith)))
 
-pub refused-start-keeps : (part : Part) (fuse : ℕ) (main settings area : List ℕ) → Kept area (startFromC part fuse main settings area)
-refused-start-keeps part fuse main settings area =
-    storing-keeps (startByFuse part fuse main settings .answer) recordSize (recordOf (startByFuse part fuse main settings .session)) area
+pub refused-start-keeps : (part : Part) (fuse : ℕ) (main settings window area : List ℕ) → Kept area (startFromC part fuse main settings window area)
+refused-start-keeps part fuse main settings window area =
+    storing-keeps (startByFuse part fuse main settings window .answer) recordSize (recordOf (startByFuse part fuse main settings window .session)) area
 
 pub refused-read-keeps : (image area : List ℕ) → Kept area (readFromC image area)
 refused-read-keeps image area =
@@ -103,4 +103,5 @@ module _ (part : Part) (area : List ℕ) (before : Memory) (wait : ℕ) (packet 
   unfolding callFromC
   refused-call-keeps-all =
       by-pick AllKept (ltb (length reply) replyLimit) _ _ (λ y h. refl)
-      (λ n. by-pick AllKept (not (isRecordArea area)) _ _ (λ y h. refl) (λ m. session-keeps))
+      (λ n. by-pick AllKept (not (eqb (length (before .window)) (part .«window_size»))) _ _ (λ y h. refl)
+      (λ n. by-pick AllKept (not (isRecordArea area)) _ _ (λ y h. refl) (λ m. session-keeps)))

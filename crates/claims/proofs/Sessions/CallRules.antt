@@ -39,7 +39,7 @@ use Rattle.session_judge.proofs.StrangerLaws.{only-unlock-is-compared}
 use Rattle.session_act.specs.declared.Order.the-variants.{Keep, EraseBoth}
 use Rattle.session_act.specs.declared.Planned.{Planned}
 use Rattle.session_act.proofs.PlanLaws.{bytes-need-no-order}
-use Rattle.session_act.proofs.ActingLaws.{act-keeps-lengths}
+use Rattle.session_act.proofs.ActingLaws.{SameLengths, act-keeps-lengths}
 use Rattle.session_act.proofs.LockedLaws.{isStrike, locked-orders}
 use Rattle.session_send.specs.Answering.{hushed, answerOf}
 use Rattle.session.specs.declared.Session.{Session}
@@ -77,19 +77,23 @@ module _ (part : Part) where
     abbrev isValidRecord : Type 0
     isValidRecord = isRecord part session (length (before .main)) (length (before .settings)) ≡ true
 
-    -- both images keep their lengths
-    pub call-keeps-lengths : (length (after .memory .main) ≡ length (before .main)) × (length (after .memory .settings) ≡ length (before .settings))
+    -- a window of the part's size
+    abbrev isWindowSize : Type 0
+    isWindowSize = length (before .window) ≡ part .«window_size»
+
+    -- both images and the window keep their lengths: no sequence of calls leads to a refusal 11
+    pub call-keeps-lengths : SameLengths before (after .memory)
     unfolding serveOf
     call-keeps-lengths =
-        every-call part session before wait packet area (λ left. (length (left .memory .main) ≡ length (before .main)) × (length (left .memory .settings) ≡ length (before .settings)))
-        (λ number. (refl, refl))
+        every-call part session before wait packet area (λ left. SameLengths before (left .memory))
+        (λ number. record { main = refl; settings = refl; window = refl })
         (act-keeps-lengths (boardOf part session) before _ packet (judgement (part .«last_rate») session wait packet .effect))
 
-    -- a valid record is served, where there is room for a reply
-    pub valid-is-served : isValidRecord → replyLimit ≤ length area → after ≡ serveOf part session before wait packet area
+    -- a valid record is served, where the window has its size and there is room for a reply
+    pub valid-is-served : isValidRecord → isWindowSize → replyLimit ≤ length area → after ≡ serveOf part session before wait packet area
     unfolding callOf
-    valid-is-served valid room =
-        pick-false _ _ (le-ltb (length area) replyLimit room) ∙ pick-false _ _ (ap not valid)
+    valid-is-served valid window room =
+        pick-false _ _ (le-ltb (length area) replyLimit room) ∙ pick-false _ _ (ap not (eq-eqb _ _ window)) ∙ pick-false _ _ (ap not valid)
 
     -- the record that a call gives back is valid again: no sequence of calls leads to a refusal 10
     pub valid-stays-valid : Sound part → isValidRecord → isRecord part (after .session) (length (after .memory .main)) (length (after .memory .settings)) ≡ true
@@ -104,8 +108,8 @@ module _ (part : Part) where
           standing = judge-keeps-valid (part .«last_rate») (session .standing) _ wait packet _ (sound .start) (v .standing);
           values = v .values;
           mainSize = v .mainSize;
-          settings = kept .1 ∙ v .settings;
-          main = kept .0 ∙ v .main;
+          settings = kept .settings ∙ v .settings;
+          main = kept .main ∙ v .main;
         }))
 
     -- 01, Commands: "count up by one to at most 3"
@@ -160,7 +164,7 @@ module _ (part : Part) where
 
   module _ (image : List ℕ) where
     -- what an accepted image promises
-    abbrev Promise : ReadTold → Type 0
+    abbrev pub Promise : ReadTold → Type 0
     Promise told = told .number ≡ 0 → (isAllowed (told .settings .shown) ≡ true) × (length image ≡ imageSize)
 
     written-promises : length image ≡ imageSize → Promise (readWritten form1 image)
@@ -173,7 +177,7 @@ module _ (part : Part) where
         (λ n. by-pick Promise (not (pick (isAllowed (shownIn form1 image)) (eqb (getD (bodyIn form1 3 image) 5 0) 0) false)) _ _ (λ y e. absurd (omega arith))
         (λ n e. (pick-both _ _ (not-false _ n) .0, size))))))
 
-    accepted-is-allowed : Promise (readOf form1 image)
+    pub accepted-is-allowed : Promise (readOf form1 image)
     unfolding readOf
     accepted-is-allowed =
         by-pick Promise (not (eqb (length image) imageSize)) _ _ (λ y e. absurd (omega arith))
@@ -190,36 +194,42 @@ module _ (part : Part) where
   abbrev pub startsAs : Session → StartTold
   startsAs session = record { answer = numbered 0 0; session = session }
 
-  module _ (fuse : Bool) (main settings : List ℕ) where
+  module _ (fuse : Bool) (main settings window : List ℕ) where
     -- what holds of the session of the settings that are read holds wherever a session is started
     pub every-start : (P : StartTold → Type 0)
-        → (isMainSize part (length main) ≡ true → readOf form1 settings .number ≡ 0 → P (startsAs (sessionOf (length main) (readOf form1 settings .settings))))
-        → startOf part fuse main settings .answer .number ≡ 0 → P (startOf part fuse main settings)
+        → (isMainSize part (length main) ≡ true → length window ≡ part .«window_size» → readOf form1 settings .number ≡ 0 → P (startsAs (sessionOf (length main) (readOf form1 settings .settings))))
+        → startOf part fuse main settings window .answer .number ≡ 0 → P (startOf part fuse main settings window)
     unfolding startOf startRead
     every-start P holds =
         by-pick Promised fuse _ _ (λ y e. absurd (omega arith))
         (λ n. by-pick Promised (not (isMainSize part (length main))) _ _ (λ y e. absurd (omega arith))
-        (λ n. by-pick Promised (eqb (readOf form1 settings .number) 0) _ _
-        (λ y e. holds (not-false _ n) (eqb-true _ _ y))
-        (λ n e. absurd (true≢false (sym (eq-eqb _ _ e) ∙ n)))))
+        (λ sized. by-pick Promised (not (eqb (length settings) imageSize)) _ _ (λ y e. absurd (omega arith))
+        (λ n. by-pick Promised (not (eqb (length window) (part .«window_size»))) _ _ (λ y e. absurd (omega arith))
+        (λ lent. by-pick Promised (eqb (readOf form1 settings .number) 0) _ _
+        (λ y e. holds (not-false _ sized) (eqb-true _ _ (not-false _ lent)) (eqb-true _ _ y))
+        (λ n e. absurd (true≢false (sym (eq-eqb _ _ e) ∙ n)))))))
       where
         Promised : StartTold → Type 0
         Promised told = told .answer .number ≡ 0 → P told
 
     -- a session that was started is valid beside the images it was started with
-    pub started-is-valid : Sound part → startOf part fuse main settings .answer .number ≡ 0
-        → isRecord part (startOf part fuse main settings .session) (length main) (length settings) ≡ true
+    pub started-is-valid : Sound part → startOf part fuse main settings window .answer .number ≡ 0
+        → isRecord part (startOf part fuse main settings window .session) (length main) (length settings) ≡ true
     started-is-valid sound =
         every-start (λ told. isRecord part (told .session) (length main) (length settings) ≡ true)
-        (λ size read.
+        (λ size lent read.
         let allowed = accepted-is-allowed settings read in
         clauses-make-record part _ _ _
         (record { standing = start-is-valid (part .«last_rate») (sound .start); values = allowed .0; mainSize = size; settings = allowed .1; main = refl }))
 
     -- 01, Phases and waits: "Settings are taken at start"
-    pub started-session : startOf part fuse main settings .answer .number ≡ 0
-        → startOf part fuse main settings .session ≡ sessionOf (length main) (readOf form1 settings .settings)
-    started-session = every-start (λ told. told .session ≡ sessionOf (length main) (readOf form1 settings .settings)) (λ size read. refl)
+    pub started-session : startOf part fuse main settings window .answer .number ≡ 0
+        → startOf part fuse main settings window .session ≡ sessionOf (length main) (readOf form1 settings .settings)
+    started-session = every-start (λ told. told .session ≡ sessionOf (length main) (readOf form1 settings .settings)) (λ size lent read. refl)
+
+    -- and its window has the part's size
+    pub started-has-window : startOf part fuse main settings window .answer .number ≡ 0 → length window ≡ part .«window_size»
+    started-has-window = every-start (λ told. length window ≡ part .«window_size») (λ size lent read. lent)
 
 -- ---- the MSPM0
 
@@ -234,6 +244,6 @@ pub mspm0-wrong-count-is-at-most-3 : (session : Session) (before : Memory) (wait
     → callOf mspm0 session before wait packet area .session .standing .wrong ≤ mostWrong
 mspm0-wrong-count-is-at-most-3 session before wait packet area = wrong-count-is-at-most-3 mspm0 session before wait packet area mspm0-is-sound
 
-pub mspm0-started-is-valid : (fuse : Bool) (main settings : List ℕ) → startOf mspm0 fuse main settings .answer .number ≡ 0
-    → isRecord mspm0 (startOf mspm0 fuse main settings .session) (length main) (length settings) ≡ true
-mspm0-started-is-valid fuse main settings = started-is-valid mspm0 fuse main settings mspm0-is-sound
+pub mspm0-started-is-valid : (fuse : Bool) (main settings window : List ℕ) → startOf mspm0 fuse main settings window .answer .number ≡ 0
+    → isRecord mspm0 (startOf mspm0 fuse main settings window .session) (length main) (length settings) ≡ true
+mspm0-started-is-valid fuse main settings window = started-is-valid mspm0 fuse main settings window mspm0-is-sound

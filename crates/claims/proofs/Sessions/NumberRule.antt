@@ -39,7 +39,8 @@ use Rattle.c_records.specs.Boundary.{startByFuse, startFromC, Called, storedAft
 
 -- ---- the numbers
 
--- 01, Numbers of refused calls: "Start checks 1-8, the settings reader 3-8, the writer 3 then 8, a session call 9 then 10."
+-- 01, Numbers of refused calls: "Start checks 1-8, the settings reader 3-8, the writer 3 then 8, a session call 9 then 10."; T-05: "11, window not
+-- 3,456 bytes, after 3 at start and after 9 in a call"
 abbrev pub readNumbers : List ℕ
 readNumbers = 0 ∷ 3 ∷ 4 ∷ 5 ∷ 6 ∷ 7 ∷ 8 ∷ []
 
@@ -47,10 +48,10 @@ abbrev pub writeNumbers : List ℕ
 writeNumbers = 0 ∷ 3 ∷ 8 ∷ []
 
 abbrev pub startNumbers : List ℕ
-startNumbers = 1 ∷ 2 ∷ readNumbers
+startNumbers = 1 ∷ 2 ∷ 11 ∷ readNumbers
 
 abbrev pub callNumbers : List ℕ
-callNumbers = 0 ∷ 9 ∷ 10 ∷ []
+callNumbers = 0 ∷ 9 ∷ 11 ∷ 10 ∷ []
 
 abbrev pub IsOneOf : List ℕ → ℕ → Type 0
 IsOneOf numbers number = isOneOf number numbers ≡ true
@@ -93,19 +94,21 @@ write-is-answered settings area =
     Well : WriteLeft → Type 0
     Well left = IsOneOf writeNumbers (left .number)
 
-module _ (part : Part) (fuse : Bool) (main settings : List ℕ) where
+module _ (part : Part) (fuse : Bool) (main settings window : List ℕ) where
   abbrev StartWell : StartTold → Type 0
   StartWell told = Told startNumbers (told .answer .number) (told .answer .entry)
 
-  pub start-is-answered : StartWell (startOf part fuse main settings)
+  pub start-is-answered : StartWell (startOf part fuse main settings window)
   unfolding startOf startRead isOneOf pick
   start-is-answered =
       let read = read-is-answered settings in
       let number = readOf form1 settings .number in
       by-pick StartWell fuse _ _ (λ y. (refl, omega arith))
       (λ n. by-pick StartWell (not (isMainSize part (length main))) _ _ (λ y. (refl, omega arith))
+      (λ n. by-pick StartWell (not (eqb (length settings) imageSize)) _ _ (λ y. (refl, omega arith))
+      (λ n. by-pick StartWell (not (eqb (length window) (part .«window_size»))) _ _ (λ y. (refl, omega arith))
       (λ n. by-pick StartWell (eqb (readOf form1 settings .number) 0) _ _ (λ y. (refl, omega arith))
-      (λ n. (one-of-more 1 (2 ∷ readNumbers) number (one-of-more 2 readNumbers number (read .0)), read .1))))
+      (λ n. (one-of-more 1 (2 ∷ 11 ∷ readNumbers) number (one-of-more 2 (11 ∷ readNumbers) number (one-of-more 11 readNumbers number (read .0))), read .1))))))
 
 module _ (part : Part) (session : Session) (before : Memory) (wait : ℕ) (packet area : List ℕ) where
   abbrev CallWell : Left → Type 0
@@ -115,7 +118,8 @@ module _ (part : Part) (session : Session) (before : Memory) (wait : ℕ) (packe
   unfolding callOf serveOf isOneOf pick
   call-is-answered =
       by-pick CallWell (ltb (length area) replyLimit) _ _ (λ y. refl)
-      (λ n. by-pick CallWell (not (isRecord part session (length (before .main)) (length (before .settings)))) _ _ (λ y. refl) (λ n. refl))
+      (λ n. by-pick CallWell (not (eqb (length (before .window)) (part .«window_size»))) _ _ (λ y. refl)
+      (λ n. by-pick CallWell (not (isRecord part session (length (before .main)) (length (before .settings)))) _ _ (λ y. refl) (λ n. refl)))
 
 -- ---- from C
 
@@ -142,12 +146,12 @@ storing-is-answered numbers told size bytes area zero well =
     Well : Stored → Type 0
     Well left = IsOneOf (10 ∷ numbers) (refusalIn (left .answer))
 
-pub start-is-answered-from-C : (part : Part) (fuse : ℕ) (main settings area : List ℕ)
-    → IsOneOf (10 ∷ startNumbers) (refusalIn (startFromC part fuse main settings area .answer))
+pub start-is-answered-from-C : (part : Part) (fuse : ℕ) (main settings window area : List ℕ)
+    → IsOneOf (10 ∷ startNumbers) (refusalIn (startFromC part fuse main settings window area .answer))
 unfolding isOneOf pick
-start-is-answered-from-C part fuse main settings area =
-    storing-is-answered startNumbers (startByFuse part fuse main settings .answer) recordSize (recordOf (startByFuse part fuse main settings .session)) area refl
-    (start-is-answered part (not (eqb fuse 0)) main settings)
+start-is-answered-from-C part fuse main settings window area =
+    storing-is-answered startNumbers (startByFuse part fuse main settings window .answer) recordSize (recordOf (startByFuse part fuse main settings window .session)) area
+    refl (start-is-answered part (not (eqb fuse 0)) main settings window)
 
 pub read-is-answered-from-C : (image area : List ℕ) → IsOneOf (10 ∷ readNumbers) (refusalIn (readFromC image area .answer))
 unfolding isOneOf pick
@@ -188,7 +192,8 @@ module _ (part : Part) (area : List ℕ) (before : Memory) (wait : ℕ) (packet 
   unfolding callFromC storedAfter isOneOf pick
   call-is-answered-from-C =
       by-pick CalledWell (ltb (length reply) replyLimit) _ _ (λ y. refl)
+      (λ n. by-pick CalledWell (not (eqb (length (before .window)) (part .«window_size»))) _ _ (λ y. refl)
       (λ n. by-pick CalledWell (not (isRecordArea area)) _ _ (λ y. refl)
       (λ n. by-pick (λ after. CalledWell (calledFrom after left)) (eqb (left .answer .number) 0) _ _
       (λ y. subst (IsOneOf callNumbers) (sym (served-says-0 (left .answer .burn))) refl)
-      (λ n. subst (IsOneOf callNumbers) (sym (refusal-is (numbered (left .answer .number) 0) (omega arith))) (call-is-answered part (sessionIn area) before wait packet reply))))
+      (λ n. subst (IsOneOf callNumbers) (sym (refusal-is (numbered (left .answer .number) 0) (omega arith))) (call-is-answered part (sessionIn area) before wait packet reply)))))

@@ -75,5 +75,5 @@ module _ (part : Part) (mainSize : ℕ) (protection : List ℕ) (settingsBit : �
         by-cases (decLt (firstKept sectorSize protection address (address + size)) (address + size))
         (λ h.
         ap (programAt part protection settingsBit address size memory) (place-in-main address size (address + size) refl there)
-        ∙ pick-false _ _ refl ∙ pick-true _ _ aligned ∙ pick-true _ _ (lt-ltb _ _ h))
+        ∙ pick-false _ _ refl ∙ pick-false _ _ refl ∙ pick-true _ _ aligned ∙ pick-true _ _ (lt-ltb _ _ h))
         (λ n. absurd (true≢false (sym (none-is-kept sectorSize protection address (address + size) (omega arith) place l u) ∙ kept)))

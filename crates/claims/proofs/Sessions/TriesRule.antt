@@ -60,10 +60,10 @@ module _ (part : Part) where
         every-call part session before wait packet area (λ left. left .session .standing .tries ≡ session .standing .tries) (λ number. refl)
         (total-then ∙ pick-false _ _ other)
 
-    module _ (valid : isValidRecord) (room : replyLimit ≤ length area) (wrong : isWrong ≡ true) where
+    module _ (valid : isValidRecord) (window : length (before .window) ≡ part .«window_size») (room : replyLimit ≤ length area) (wrong : isWrong ≡ true) where
       wrong-is-served : after .session .standing .tries ≡ triedOnce (session .standing .tries)
       wrong-is-served =
-          ap (λ (left : Left). left .session .standing .tries) (valid-is-served part session before wait packet area valid room) ∙ total-then ∙ pick-true _ _ wrong
+          ap (λ (left : Left). left .session .standing .tries) (valid-is-served part session before wait packet area valid window room) ∙ total-then ∙ pick-true _ _ wrong
 
       -- a wrong password adds one, also while the session is unlocked, also the fourth and each later one
       pub wrong-password-adds-one : session .standing .tries < mostTries → after .session .standing .tries ≡ session .standing .tries + 1

@@ -1,4 +1,5 @@
--- T-02: "each word it would touch is all 0xFF; if not, nothing is written". Of a range of whole words that one region holds, with no protected place.
+-- T-02: "each word it would touch is all 0xFF; if not, nothing is written". Of a range of whole words that one region of flash holds, with no protected
+-- place.
 use mathlib.Core.Path.{_≡_, refl, sym, ap, _∙_}
 use mathlib.Core.Bool.{Bool, true, false, not, true≢false}
 use mathlib.Core.List.{List, [], _∷_}
@@ -20,7 +21,7 @@ use Rattle.parts.specs.declared.Part.{Part}
 use Rattle.settings.specs.declared.Shown.{Shown}
 use Rattle.flash.specs.declared.Place.{Place}
 use Rattle.flash.specs.declared.Region.{Region}
-use Rattle.flash.specs.declared.Region.the-variants.{Main, Settings, Outside}
+use Rattle.flash.specs.declared.Region.the-variants.{Main, Settings, Window, Outside}
 use Rattle.flash.specs.Memory.{Memory, memory, bytesAt}
 use Rattle.flash.specs.Protection.{firstKept}
 use Rattle.flash.specs.Programming.{programOf}
@@ -31,7 +32,7 @@ use Rattle.flash.proofs.WordLaws.{program-on-blank}
 use Rattle.session_act.specs.declared.Planned.{Planned}
 use Rattle.session_act.specs.Orders.{carriedOut}
 use Rattle.session_act.specs.Plans.{says, orders}
-use Rattle.session_act.specs.Programming.{isOutside, isAligned, programIn, programAt, program}
+use Rattle.session_act.specs.Programming.{isOutside, isWindow, isAligned, programIn, programAt, program}
 use Rattle.session_act.proofs.WrittenLaws.{written-by-bytes}
 
 module _ (part : Part) (mainSize : ℕ) (protection : List ℕ) (settingsBit address size : ℕ) (before : Memory) where
@@ -41,15 +42,15 @@ module _ (part : Part) (mainSize : ℕ) (protection : List ℕ) (settingsBit add
   abbrev plans : Planned
   plans = program part mainSize protection settingsBit address size before
 
-  module _ (inside : isOutside (place .region) ≡ false) (aligned : isAligned (part .«word_size») address size ≡ true) (unprotected : place .«is_protected» ≡ false) where
+  module _ (inside : isOutside (place .region) ≡ false) (flash : isWindow (place .region) ≡ false) (aligned : isAligned (part .«word_size») address size ≡ true) (unprotected : place .«is_protected» ≡ false) where
     -- every byte of the range is looked at, and nothing else: not the data, and no byte beside it
     pub program-looks-at-range : plans
         ≡ pick (not (allAre 0xFF (bytesAt place size before))) (says FlashError) (orders codes.success (programIn (place .offset) size (place .region)))
     unfolding programAt
     program-looks-at-range =
-        pick-false _ _ inside ∙ pick-true _ _ aligned ∙ pick-false _ _ unprotected
+        pick-false _ _ inside ∙ pick-false _ _ flash ∙ pick-true _ _ aligned ∙ pick-false _ _ unprotected
         ∙ ap (λ (written : Bool). pick written (says FlashError) (orders codes.success (programIn (place .offset) size (place .region))))
-        (written-by-bytes part mainSize protection settingsBit address size before aligned place refl unprotected)
+        (written-by-bytes part mainSize protection settingsBit address size before aligned place refl flash unprotected)
 
     -- one byte of it that is not 0xFF, wherever it stands, and nothing is ordered
     pub written-program-is-refused : (k : ℕ) → k < length (bytesAt place size before) → (getD (bytesAt place size before) k 0 ≡ 0xFF → ⊥) → plans ≡ says FlashError
@@ -62,13 +63,14 @@ module _ (part : Part) (mainSize : ℕ) (protection : List ℕ) (settingsBit add
     pub blank-program-is-obeyed : allAre 0xFF (bytesAt place size before) ≡ true → plans ≡ orders codes.success (programIn (place .offset) size (place .region))
     blank-program-is-obeyed blank = program-looks-at-range ∙ pick-false _ _ (ap not blank)
 
--- where all are 0xFF the bytes become the data, and no other byte changes
+-- where all are 0xFF the bytes become the data, and no other byte changes; in the window they do so whatever they were
 module _ (part : Part) (mainSize : ℕ) (shown : Shown) (protection : List ℕ) (address size : ℕ) (packet : List ℕ) (before : Memory)
     (has : length (dataIn size packet) ≡ size) (small : (k : ℕ) → getD (dataIn size packet) k 0 < 256) where
   -- the data stand in a region, from an offset on
   abbrev storedIn : ℕ → Region → Memory
-  storedIn offset Main = memory (sets (before .main) offset (dataIn size packet)) (before .settings)
-  storedIn offset Settings = memory (before .main) (sets (before .settings) offset (dataIn size packet))
+  storedIn offset Main = memory (sets (before .main) offset (dataIn size packet)) (before .settings) (before .window)
+  storedIn offset Settings = memory (before .main) (sets (before .settings) offset (dataIn size packet)) (before .window)
+  storedIn offset Window = memory (before .main) (before .settings) (sets (before .window) offset (dataIn size packet))
   storedIn offset Outside = before
 
   stored : (bits : List ℕ) (offset : ℕ) (bytes : List ℕ) → offset + size ≤ length bytes
@@ -93,10 +95,11 @@ module _ (part : Part) (mainSize : ℕ) (shown : Shown) (protection : List ℕ) 
       by-pick LeavesData (liesWithin mainStart mainSize address size) _ _
       (λ y unkept blank.
       let b = within-bounds mainStart mainSize address size y in
-      ap (λ (bytes : List ℕ). memory bytes (before .settings)) (stored protection (address - mainStart) (before .main) (omega (arith, b, main)) unkept blank))
+      ap (λ (bytes : List ℕ). memory bytes (before .settings) (before .window)) (stored protection (address - mainStart) (before .main) (omega (arith, b, main)) unkept blank))
       (λ n. by-pick LeavesData (liesWithin start (part .«settings_size») address size) _ _
       (λ y unkept blank.
       let b = within-bounds start (part .«settings_size») address size y in
-      ap (λ (bytes : List ℕ). memory (before .main) bytes)
+      ap (λ (bytes : List ℕ). memory (before .main) bytes (before .window))
       (stored (shown .«settings_protected» ∷ []) (address - start) (before .settings) (omega (arith, b, settings)) unkept blank))
-      (λ o unkept blank. refl))
+      (λ o. by-pick LeavesData (liesWithin (part .«window_start») (part .«window_size») address size) _ _
+      (λ y unkept blank. refl) (λ v unkept blank. refl)))

@@ -21,8 +21,9 @@ use Rattle.flash.specs.Regions.{isMainSize}
 use Rattle.session.specs.Starting.{startRead, startOf}
 use Rattle.claims.specs.Held.{Held}
 use Rattle.claims.specs.TwoBoards.{Images, settingsOf, AlikeBoards}
-use Rattle.claims.specs.Trials.{mainSize, blankBoard, chosen, writtenBoard, quietBoard, resetBoard, Differ}
+use Rattle.claims.specs.Trials.{mainSize, windowOf, blankBoard, chosen, writtenBoard, quietBoard, resetBoard, Differ}
 use Rattle.claims.proofs.Settings.Written.{image-reads}
+use Rattle.claims.proofs.Sessions.CallRules.{accepted-is-allowed}
 use Rattle.claims.proofs.Settings.SettingsRule.{blank-reads}
 
 -- ---- the boards start, with the settings that were chosen
@@ -30,16 +31,24 @@ use Rattle.claims.proofs.Settings.SettingsRule.{blank-reads}
 -- a board of a right size, of which the reader accepts these settings
 pub record Good (images : Images) (settings : Settings) : Type 0 where
   pub size : length (images .main) ≡ mainSize
+  pub window : length (images .window) ≡ mspm0 .«window_size»
   pub read : readOf form1 (images .settings) ≡ accepted settings
 
-pub starts : (images : Images) (settings : Settings) → Good images settings → startOf mspm0 false (images .main) (images .settings) .answer .number ≡ 0
+pub starts : (images : Images) (settings : Settings) → Good images settings → startOf mspm0 false (images .main) (images .settings) (images .window) .answer .number ≡ 0
 unfolding startOf startRead isMainSize isMultiple pick
-starts images settings good = rw (good .size, good .read)
+starts images settings good =
+    let long = accepted-is-allowed mspm0 (images .settings) (ap (λ (told : ReadTold). told .number) (good .read)) .1 in
+    rw (good .size, long, good .window, good .read)
+
+-- a window that is one byte all through
+window-sized : (byte : ℕ) → length (windowOf byte) ≡ mspm0 .«window_size»
+unfolding windowOf
+window-sized byte = length-replicate {A = ℕ} (mspm0 .«window_size») byte
 
 -- a blank board
 pub blank-is-good : Good blankBoard blankSettings
 unfolding blankBoard
-blank-is-good = record { size = length-replicate {A = ℕ} mainSize 0xFF; read = blank-reads }
+blank-is-good = record { size = length-replicate {A = ℕ} mainSize 0xFF; window = window-sized 0xFF; read = blank-reads }
 
 -- a written board: the reader takes back what was written
 module _ (alert guard pointer byte main : ℕ) (known : alert ≤ 2) (bit : guard ≤ 1) (held : pointer < 256 ^ 4) (small : byte < 256) where
@@ -58,7 +67,11 @@ module _ (alert guard pointer byte main : ℕ) (known : alert ≤ 2) (bit : guar
   written-is-good : Good (writtenBoard (chosen alert guard pointer byte) main) (chosen alert guard pointer byte)
   unfolding writtenBoard
   written-is-good =
-      record { size = omega (arith, length-replicate 2044 main); read = image-reads (chosen alert guard pointer byte) chosen-is-held chosen-is-allowed }
+      record {
+        size = omega (arith, length-replicate 2044 main);
+        window = window-sized main;
+        read = image-reads (chosen alert guard pointer byte) chosen-is-held chosen-is-allowed;
+      }
 
 pub quiet-is-good : (byte main : ℕ) → byte < 256 → Good (quietBoard byte main) (chosen 0 0 0xFFFFFFFF byte)
 quiet-is-good byte main small = written-is-good 0 0 0xFFFFFFFF byte main (omega arith) (omega arith) (omega arith) small
@@ -96,12 +109,13 @@ module _ (one other : Images) (oneSettings otherSettings : Settings) (oneGood : 
 
   differ : (place : ℕ) → (getD (oneSettings .password) 0 0 ≡ getD (otherSettings .password) 0 0 → ⊥)
       → (getD (oneSettings .«reset_password») 0 0 ≡ getD (otherSettings .«reset_password») 0 0 → ⊥)
-      → (getD (one .main) place 0 ≡ getD (other .main) place 0 → ⊥) → Differ one other
-  differ place password reset main = record {
+      → (getD (one .main) place 0 ≡ getD (other .main) place 0 → ⊥) → (getD (one .window) 0 0 ≡ getD (other .window) 0 0 → ⊥) → Differ one other
+  differ place password reset main window = record {
     password = first-differs (λ settings. settings .password) password;
     resetPassword = first-differs (λ settings. settings .«reset_password») reset;
     main = λ e. main (ap (λ (bytes : List ℕ). getD bytes place 0) e);
     settings = λ e. first-differs (λ settings. settings .password) password (ap (λ (image : List ℕ). readOf form1 image .settings .password) e);
+    window = λ e. window (ap (λ (bytes : List ℕ). getD bytes 0 0) e);
   }
 
 -- ---- a blank board, and a quiet one
@@ -117,9 +131,10 @@ blank-and-quiet-are-alike =
     (no-version (blankBoard .main) ∙ sym (no-version (quietBoard 0 0 .main)))
 
 pub blank-and-quiet-differ : Differ blankBoard (quietBoard 0 0)
-unfolding blankBoard writtenBoard
+unfolding blankBoard writtenBoard windowOf
 blank-and-quiet-differ =
     differ blankBoard (quietBoard 0 0) blankSettings _ blank-is-good (quiet-is-good 0 0 (omega arith)) 0 (λ e. omega arith) (λ e. omega arith) (λ e. omega arith)
+    (λ e. omega arith)
 
 -- ---- two whose alert resets
 
@@ -135,7 +150,7 @@ module _ (guard : ℕ) (bit : guard ≤ 1) where
       (reset-version guard 0x11 0x66 ∙ sym (reset-version guard 0x22 0x77))
 
   pub reset-differ : Differ (resetBoard guard 0x11 0x66) (resetBoard guard 0x22 0x77)
-  unfolding writtenBoard
+  unfolding writtenBoard windowOf
   reset-differ =
       differ (resetBoard guard 0x11 0x66) (resetBoard guard 0x22 0x77) _ _ (reset-is-good guard 0x11 0x66 bit (omega arith)) (reset-is-good guard 0x22 0x77 bit (omega arith)) 4
-      (λ e. omega arith) (λ e. omega arith) (λ e. omega arith)
+      (λ e. omega arith) (λ e. omega arith) (λ e. omega arith) (λ e. omega arith)

@@ -111,7 +111,7 @@ module _ (images : Images) (settings : Settings) (good : Good images settings) w
         let core = sym (unlock-is-password (mspm0 .«last_rate») (unlocks byte .packet) (unlock-is-fine byte small) (unlock-is-read byte)) ∙ unlock-core byte in
         let bit = ap₂ areSame (ap (λ (told : ReadTold). told .settings .password) (good .read)) (ap (drop 1) core) ∙ compared in
         ap (λ (board : Running). called mspm0 board (unlocks byte) (unlocks byte .oneArea)) (connected .so)
-        ∙ valid-is-served mspm0 (sessionThen images (stood 0 0)) _ 2000 (unlocks byte .packet) (unlocks byte .oneArea) (connected .locked .valid) (room 0)
+        ∙ valid-is-served mspm0 (sessionThen images (stood 0 0)) _ 2000 (unlocks byte .packet) (unlocks byte .oneArea) (connected .locked .valid) (connected .locked .window) (room 0)
         ∙ ap (followed mspm0 (sessionThen images (stood 0 0)) _ (unlocks byte .packet) (unlocks byte .oneArea))
         (ap (judgedOf (mspm0 .«last_rate») (stood 0 0) (alertOf images) 2000 (unlocks byte .packet)) bit ∙ tried-awake byte small 0 (alertOf images) right)
 
@@ -196,24 +196,25 @@ module _ (guard byte main : ℕ) (bit : guard ≤ 1) (small : byte < 256) (other
 
   -- the third one strikes; what the strike leaves follows from the bits
   strike-leaves : ran (started mspm0 struckBoard) threeGuesses .memory
-      ≡ memory (imageThen sectorSize true (guard ∷ replicate 7 0) (struckBoard .main)) (imageThen sectorSize true (guard ∷ []) (struckBoard .settings))
+      ≡ memory (imageThen sectorSize true (guard ∷ replicate 7 0) (struckBoard .main)) (imageThen sectorSize true (guard ∷ []) (struckBoard .settings)) (struckBoard .window)
   strike-leaves =
       ap (λ (board : Running). board .memory) (guessed .so)
       ∙ ap (memoryThen mspm0 struckBoard) (struck-at-three .1)
       ∙ ap (λ (told : ReadTold). memory (imageThen sectorSize true (told .settings .protection) (struckBoard .main))
-      (imageThen sectorSize true (settingsProtection (told .settings .shown)) (struckBoard .settings))) (good .read)
+      (imageThen sectorSize true (settingsProtection (told .settings .shown)) (struckBoard .settings)) (struckBoard .window)) (good .read)
 
 module _ (byte main : ℕ) (small : byte < 256) (other : 0x33 ≡ byte → ⊥) where
   -- where nothing is protected, all is erased
   pub three-guesses-erase : ran (started mspm0 (strictBoard byte main)) threeGuesses .memory ≡ allFF (strictBoard byte main)
   three-guesses-erase =
-      strike-leaves 0 byte main (omega arith) small other ∙ ap₂ memory (all-erased 8 _) (all-erased 1 _)
+      strike-leaves 0 byte main (omega arith) small other
+      ∙ ap₂ (λ (flash image : List ℕ). memory flash image (strictBoard byte main .window)) (all-erased 8 _) (all-erased 1 _)
 
   -- where the first sector and the settings are protected, the second sector is erased
   pub three-guesses-keep : ran (started mspm0 (guardedBoard byte main)) threeGuesses .memory ≡ secondFF (guardedBoard byte main)
   three-guesses-keep =
       strike-leaves 1 byte main (omega arith) small other
-      ∙ ap₂ memory (second-erased (guardedBoard byte main .main) (reset-is-good 1 byte main (omega arith) small .size)) (all-kept _ settings-size)
+      ∙ ap₂ (λ (flash image : List ℕ). memory flash image (guardedBoard byte main .window)) (second-erased (guardedBoard byte main .main) (reset-is-good 1 byte main (omega arith) small .size)) (all-kept _ settings-size)
     where
       settings-size : length (guardedBoard byte main .settings) ≡ sectorSize
-      settings-size = record-by-clauses mspm0 _ _ _ (started-is-valid mspm0 false _ _ mspm0-is-sound (starts _ _ (reset-is-good 1 byte main (omega arith) small))) .settings
+      settings-size = record-by-clauses mspm0 _ _ _ (started-is-valid mspm0 false _ _ _ mspm0-is-sound (starts _ _ (reset-is-good 1 byte main (omega arith) small))) .settings

@@ -12,6 +12,7 @@ call-spec =
     (λ c. search needs)
     (λ c. search needs)
     (λ c. search needs)
+    (λ c. search needs)
     (λ c.
-    let called = c .before .before .before .before .before .before in
-    rw (called .call .ensures, called .before .before .before .before .part .ensures)))
+    let called = c .before .before .before .before .before .before .before .before in
+    rw (called .call .ensures, called .before .before .before .before .before .part .ensures)))

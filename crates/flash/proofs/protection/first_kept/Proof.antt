@@ -1,15 +1,13 @@
 -- `flash::protection::first_kept` meets its contract: at each turn, the search of the places left finds what the search of all finds.
 use mathlib.Core.Path.{_≡_, refl, sym, _∙_}
 use mathlib.Core.Logic.{by-cases}
-use Prim.Native.Nat.{ℕ, _^_, _-_, _%_, _≤_, _<_, min}
+use Prim.Native.Nat.{ℕ, _-_, _≤_, _<_, min}
 use native.Mathlib.Decide.{decLt}
-use native.Mathlib.Nat.{mod-lt}
+use native.Mathlib.Nat.{div-le-self, mod-lt}
 use native.Mathlib.Omega.{arith}
-use mir.Syntax.{w64}
-use mir.Val.{Fits}
 use borrow.Author.Needs.{needs}
 use Rattle.flash.specs.Protection.{firstKept}
-use Rattle.flash.proofs.KeptLaws.{kept-here, kept-later, kept-none, kept-empty-sectors}
+use Rattle.flash.proofs.KeptLaws.{next-sector, kept-here, kept-next, kept-none, kept-empty-sectors}
 use Rattle.flash.proofs.protection.first_kept.Statement.{statement}
 use Rattle.flash.proofs.protection.first_kept.Tie as tie
 
@@ -18,9 +16,6 @@ least-first a b h = omega arith
 
 least-second : (a b : ℕ) → b ≤ a → min a b ≡ b
 least-second a b h = omega arith
-
-end-fits : (end : ℕ) → Fits w64 end → end < 2 ^ 64
-end-fits end f = f .fits
 
 abbrev Inv-loop : tie.InvT-loop
 Inv-loop sector-size protection at end place₀ place = firstKept sector-size protection place end ≡ firstKept sector-size protection at end
@@ -47,27 +42,25 @@ first-kept-spec =
     let a = c .before .before .before .before .before .before .args in
     let l = c .before .before .before .loop in
     sym (kept-here (a .sector-size) _ (a .end) (l .place) (omega arith) (sym (c .before .is-protected .ensures) ∙ c .if2 .taken)) ∙ l .inv)
-    (λ c. omega arith)
+    (λ c.
+    let start = c .before .before .before .before .before .before in
+    let l = c .before .before .before .loop in
+    record { fits = omega (arith, c .before .before .loop-test .taken, start .pre .1, div-le-self (l .place) (start .args .sector-size)) })
+    (λ c.
+    let start = c .before .before .before .before .before .before in
+    let l = c .before .before .before .loop in
+    let sized : 0 < start .args .sector-size = omega arith in
+    record { fits = omega (arith, c .before .before .loop-test .taken, start .pre, next-sector (start .args .sector-size) (l .place) sized) })
     (λ c.
     let a = c .before .before .before .before .before .before .args in
     let l = c .before .before .before .loop in
     let sized : 0 < a .sector-size = omega arith in
-    omega (arith, mod-lt (l .place) sized))
-    (λ c. omega arith)
-    (λ c κs. search needs)
-    (λ c. record { fits = omega (arith, c .least2 .ensures, end-fits (c .before .before .before .before .before .before .before .args .end) (search needs)) })
+    omega (arith, c .before .before .loop-test .taken, next-sector (a .sector-size) (l .place) sized, mod-lt (l .place) sized))
     (λ c.
-    let a = c .before .before .before .before .before .before .before .args in
-    let l = c .before .before .before .before .loop in
+    let a = c .before .before .before .before .before .before .args in
+    let l = c .before .before .before .loop in
     let sized : 0 < a .sector-size = omega arith in
-    omega (arith, c .least2 .ensures, mod-lt (l .place) sized))
-    (λ c.
-    let a = c .before .before .before .before .before .before .before .args in
-    let l = c .before .before .before .before .loop in
-    let sized : 0 < a .sector-size = omega arith in
-    kept-later (a .sector-size) _ (a .end) (c .least2 .result) (l .place) sized (omega (arith, c .least2 .ensures))
-    (omega (arith, c .least2 .ensures, mod-lt (l .place) sized)) (sym (c .before .before .is-protected .ensures) ∙ c .before .if2 .left)
-    ∙ l .inv)
+    kept-next (a .sector-size) _ (a .end) (l .place) sized (c .before .before .loop-test .taken) (sym (c .before .is-protected .ensures) ∙ c .if2 .left) ∙ l .inv)
     (λ c.
     let l = c .before .loop in
     let a = c .before .before .before .before .args in

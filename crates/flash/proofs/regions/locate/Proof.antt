@@ -1,4 +1,4 @@
--- `flash::regions::locate` meets its contract: MAIN, then the settings, then neither.
+-- `flash::regions::locate` meets its contract: MAIN, then the settings, then the window, then none.
 use mathlib.Core.Path.{_≡_, sym, _∙_}
 use mathlib.Core.Bool.{true}
 use Prim.Native.Nat.{ℕ, _+_, _≤_}
@@ -28,4 +28,7 @@ locate-spec =
     (λ c. search needs)
     (λ c κs. reach _ _ _ _ (search needs) (sym (c .before .before .lies-within2 .ensures) ∙ c .before .if2 .taken))
     (λ c. rw (← c .before .before .before .before .before .lies-within .ensures, c .before .before .before .before .if1 .left, ← c .before .before .before .lies-within2 .ensures, c .before .before .if2 .taken) (c .place-in2 .ensures))
-    (λ c. rw (← c .before .before .before .lies-within .ensures, c .before .before .if1 .left, ← c .before .lies-within2 .ensures, c .if2 .left)))
+    (λ c κs. search needs)
+    (λ c κs. within-bounds _ _ _ _ (sym (c .before .lies-within3 .ensures) ∙ c .if3 .taken) .0)
+    (λ c. rw (← c .before .before .before .before .before .before .lies-within .ensures, c .before .before .before .before .before .if1 .left, ← c .before .before .before .before .lies-within2 .ensures, c .before .before .before .if2 .left, ← c .before .before .lies-within3 .ensures, c .before .if3 .taken) (c .place-in-window .ensures))
+    (λ c. rw (← c .before .before .before .before .before .lies-within .ensures, c .before .before .before .before .if1 .left, ← c .before .before .before .lies-within2 .ensures, c .before .before .if2 .left, ← c .before .lies-within3 .ensures, c .if3 .left)))

@@ -9,9 +9,9 @@ returns c = rw (c .before .before .effect .given .1, c .says .ensures) (refl, re
 
 returns-2 : tie.Need-returns-2
 returns-2 c =
-    let done = c .before .before .before .before in
-    let made = done .before .before .before .before .before .before .before in
-    let told = made .before .before .before .before .before .before .before in
+    let done = c .before .before .before .before .before .before in
+    let made = done .before .before .before .before .before .before .before .before in
+    let told = made .before .before .before .before .before .before .before .before in
     let planned = made .plan .ensures ∙ told .resets .ensures _ _ _ _ _ in
     (planned, rw (done .carry-out .ensures, planned))
 
@@ -25,6 +25,7 @@ act-on-spec =
     (λ c κs. search needs)
     (λ c κs. search needs)
     (λ c κs. search needs)
+    (λ c. search needs)
     (λ c. search needs)
     (λ c. search needs)
     returns-2)

@@ -10,9 +10,9 @@ returns : tie.Need-returns
 unfolding serveOf
 returns c =
     let told = c .before .before .before in
-    let done = told .before .before .before .before .before .before .before .before in
+    let done = told .before .before .before .before .before .before .before .before .before .before .before in
     let after = ap (λ (acted : Acted). acted .memory) (done .act-on .ensures .1) in
-    rw (← done .before .before .before .judge-packet .ensures, ← after, ← done .act-on .ensures .0, ← told .answer .ensures, c .served .ensures .0, c .served .ensures .1)
+    rw (← done .before .before .before .before .judge-packet .ensures, ← after, ← done .act-on .ensures .0, ← told .answer .ensures, c .served .ensures .0, c .served .ensures .1)
 
 pub serve-spec : {M : Type 1} → statement M
 serve-spec =
@@ -22,6 +22,7 @@ serve-spec =
     (λ c κs. search needs)
     (λ c κs. search needs)
     (λ c κs. search needs)
+    (λ c. search needs)
     (λ c. search needs)
     (λ c. search needs)
     (λ c. search needs)

@@ -12,4 +12,4 @@ erase-both-spec =
     (λ c. search needs)
     (λ c. search needs)
     (λ c. search needs)
-    (λ c. rw (c .before .before .before .before .before .before .before .erase-all .ensures, c .before .before .erase-all2 .ensures)))
+    (λ c. (c .before .before .before .before .before .before .before .erase-all .ensures, c .before .before .erase-all2 .ensures)))

@@ -2,7 +2,7 @@
 use borrow.Author.Tests.{lt-ltb, le-ltb}
 use Rattle.octets.specs.Choice.{pick}
 use Rattle.session_act.specs.Showing.{verifyAt}
-use Rattle.session_act.proofs.RegionTests.{not-outside}
+use Rattle.session_act.proofs.RegionTests.{not-outside, not-window}
 use borrow.Author.Needs.{needs}
 use Rattle.session_act.proofs.showing.verify.Statement.{statement}
 use Rattle.session_act.proofs.showing.verify.Tie as tie
@@ -16,6 +16,8 @@ verify-spec =
     (λ c κs. search needs)
     (λ c. search needs)
     (λ c. rw (le-ltb _ _ (c .before .before .before .if1 .left), ← c .before .before .locate .ensures, c .enum-told .given .1))
+    (λ c. search needs)
+    (λ c. rw (le-ltb _ _ (c .before .before .before .before .if1 .left), ← c .before .before .before .locate .ensures, c .enum-told2 .given .1))
     (λ c κs. search needs)
     (λ c κs. search needs)
-    (λ c. rw (le-ltb _ _ (c .before .before .before .before .if1 .left), ← c .before .before .before .locate .ensures, not-outside (c .before .before .before .locate .result .region) (c .before .before .match .keys2), c .checksum-of .ensures, c .before .bytes-in .ensures)))
+    (λ c. rw (le-ltb _ _ (c .before .before .before .before .before .if1 .left), ← c .before .before .before .before .locate .ensures, not-outside (c .before .before .before .before .locate .result .region) (c .before .before .before .match .keys2), not-window (c .before .before .before .before .locate .result .region) (c .before .before .match2 .keys2), c .checksum-of .ensures, c .before .bytes-in .ensures)))

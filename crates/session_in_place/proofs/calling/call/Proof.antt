@@ -69,7 +69,10 @@ stayed = (
     gave-slice (1 ∷ []) tt (plain (λ _. u8)),
     (
       gave-slice (2 ∷ []) tt (plain (λ _. u8)),
-      (stay-dropped (plain (λ _. u32)) yes, (stay-dropped (shrSliceOf (3 ∷ []) tt (plain (λ _. u8))) yes, (gave-slice (4 ∷ []) tt (plain (λ _. u8)), tt))),
+      (
+        gave-slice (3 ∷ []) tt (plain (λ _. u8)),
+        (stay-dropped (plain (λ _. u32)) yes, (stay-dropped (shrSliceOf (4 ∷ []) tt (plain (λ _. u8))) yes, (gave-slice (5 ∷ []) tt (plain (λ _. u8)), tt))),
+      ),
     ),
   ),
 )
@@ -79,7 +82,7 @@ module _ {M : Type 1} (𝓤 : URA M) (H : Heap 𝓤) (A : Atoms 𝓤) (mem′ : 
   abbrev Core : Contract 𝓤
   Core = tripleOf 𝓤 H A core.signature (core.spec 𝓤 H A mem′ run)
 
-  module _ (W : Given 𝓤 H A) (κs : Lfts 5) (qs : Shares 5) (a : Args self.signature κs) where
+  module _ (W : Given 𝓤 H A) (κs : Lfts 6) (qs : Shares 6) (a : Args self.signature κs) where
     -- the arguments, and what the machine holds of them
     abbrev session : RefT Session
     session = a .0
@@ -90,28 +93,31 @@ module _ {M : Type 1} (𝓤 : URA M) (H : Heap 𝓤) (A : Atoms 𝓤) (mem′ : 
     abbrev image : RefT (List ℕ)
     image = a .1 .1 .0
 
+    abbrev window : RefT (List ℕ)
+    window = a .1 .1 .1 .0
+
     abbrev wait : ℕ
-    wait = a .1 .1 .1 .0
+    wait = a .1 .1 .1 .1 .0
 
     abbrev packet : RefT (List ℕ)
-    packet = a .1 .1 .1 .1 .0
+    packet = a .1 .1 .1 .1 .1 .0
 
     abbrev area : RefT (List ℕ)
-    area = a .1 .1 .1 .1 .1 .0
+    area = a .1 .1 .1 .1 .1 .1 .0
 
     abbrev at : Vals self.signature κs
-    at = (vptr (session .ptr .0) (session .ptr .1) ∷ [], (sliceAt main ∷ [], (sliceAt image ∷ [], (vint w32 wait ∷ [], (sliceAt packet ∷ [], (sliceAt area ∷ [], tt))))))
+    at = (vptr (session .ptr .0) (session .ptr .1) ∷ [], (sliceAt main ∷ [], (sliceAt image ∷ [], (sliceAt window ∷ [], (vint w32 wait ∷ [], (sliceAt packet ∷ [], (sliceAt area ∷ [], tt)))))))
 
     abbrev Post : Val → SProp 𝓤
     Post = walkOf 𝓤 H A self.ended stayed (self.clauses 𝓤 H A mem′ run) .post ((κs, qs, tt, a, at), tt)
 
     -- the tokens that the call by value is handed
     abbrev toks : Item 𝓤
-    toks = ‵ (flft (κs .1 .0) (qs .1 .0)) ⊛ ‵ (flft (κs .1 .1 .0) (qs .1 .1 .0)) ⊛ ‵ (flft (κs .1 .1 .1 .0) (qs .1 .1 .1 .0)) ⊛ ‵ (flft (κs .1 .1 .1 .1 .0) (qs .1 .1 .1 .1 .0)) ⊛ ‵ ftrue
+    toks = ‵ (flft (κs .1 .0) (qs .1 .0)) ⊛ ‵ (flft (κs .1 .1 .0) (qs .1 .1 .0)) ⊛ ‵ (flft (κs .1 .1 .1 .0) (qs .1 .1 .1 .0)) ⊛ ‵ (flft (κs .1 .1 .1 .1 .0) (qs .1 .1 .1 .1 .0)) ⊛ ‵ (flft (κs .1 .1 .1 .1 .1 .0) (qs .1 .1 .1 .1 .1 .0)) ⊛ ‵ ftrue
 
-    -- the last lists of MAIN, the settings image and the reply area
+    -- the last lists of MAIN, the settings image, the window and the reply area
     abbrev Ends : Type 0
-    Ends = Unit {0} × (List ℕ × (List ℕ × (Unit {0} × (Unit {0} × (List ℕ × Unit {0})))))
+    Ends = Unit {0} × (List ℕ × (List ℕ × (List ℕ × (Unit {0} × (Unit {0} × (List ℕ × Unit {0}))))))
 
     abbrev main-then : Ends → List ℕ
     main-then zs = zs .1 .0
@@ -119,29 +125,32 @@ module _ {M : Type 1} (𝓤 : URA M) (H : Heap 𝓤) (A : Atoms 𝓤) (mem′ : 
     abbrev image-then : Ends → List ℕ
     image-then zs = zs .1 .1 .0
 
+    abbrev window-then : Ends → List ℕ
+    window-then zs = zs .1 .1 .1 .0
+
     abbrev area-then : Ends → List ℕ
-    area-then zs = zs .1 .1 .1 .1 .1 .0
+    area-then zs = zs .1 .1 .1 .1 .1 .1 .0
 
     -- what the call by value tells of them
     abbrev Told : Called → Ends → Type 0
-    Told r zs = callLeft r (memory (main-then zs) (image-then zs)) (area-then zs) ≡ callOf mspm0 (session .now) (memory (main .now) (image .now)) wait (packet .now) (area .now)
+    Told r zs = callLeft r (memory (main-then zs) (image-then zs) (window-then zs)) (area-then zs) ≡ callOf mspm0 (session .now) (memory (main .now) (image .now) (window .now)) wait (packet .now) (area .now)
 
     -- what is had at the end
     abbrev ended : Session → Ends → List (Item 𝓤)
     ended s zs =
         ‵ (fobs (session .name) (S.the-row .coded .code s)) ∷ ‵ (fbor (κs .0) (Body (mem S.the-row) (session .ptr .0) (session .ptr .1) (session .name))) ∷ ‵ (flft (κs .0) (qs .0)) ∷ toks ∷
-        ‵ (finally u8 (area .name) (area-then zs)) ∷ ‵ (finally u8 (image .name) (image-then zs)) ∷ ‵ (finally u8 (main .name) (main-then zs)) ∷ []
+        ‵ (finally u8 (area .name) (area-then zs)) ∷ ‵ (finally u8 (window .name) (window-then zs)) ∷ ‵ (finally u8 (image .name) (image-then zs)) ∷ ‵ (finally u8 (main .name) (main-then zs)) ∷ []
 
     abbrev answerVal : Called → Val
     answerVal r = EL.val O.the-type O′.the-laws (r .answer)
 
-    exits : (r : Called) (zs : Ends) → Told r zs → length (main-then zs) ≡ length (main .now) → length (image-then zs) ≡ length (image .now) → length (area-then zs) ≡ length (area .now)
+    exits : (r : Called) (zs : Ends) → Told r zs → length (main-then zs) ≡ length (main .now) → length (image-then zs) ≡ length (image .now) → length (window-then zs) ≡ length (window .now) → length (area-then zs) ≡ length (area .now)
         → Is O.the-row (r .answer) (answerVal r ∷ []) → ent 𝓤 (⋆ 𝓤 H A (ended (r .session) zs)) (Post (answerVal r))
-    exits r zs e main-long image-long area-long is =
+    exits r zs e main-long image-long window-long area-long is =
         qed W (ended (r .session) zs) ∵
-        suffices ! _ (ends-at 𝓤 H A self.ended stayed (self.clauses 𝓤 H A mem′ run) W ((κs, qs, tt, a, at), tt) (answerVal r) (r .answer) (r .session, zs .1) (tt, (main-long, (image-long, (tt, (tt, (area-long, tt))))))) $ says ! e $
+        suffices ! _ (ends-at 𝓤 H A self.ended stayed (self.clauses 𝓤 H A mem′ run) W ((κs, qs, tt, a, at), tt) (answerVal r) (r .answer) (r .session, zs .1) (tt, (main-long, (image-long, (window-long, (tt, (tt, (area-long, tt)))))))) $ says ! e $
         move ! (2 ∷ 3 ∷ []) $ join ! $ frame ! $ feqI ! (List Val) (at .0) (at .0) refl $ fjoin3 ! $
-        nothing ! $ move ! (2 ∷ 0 ∷ []) $ fjoin ! $ nothing ! $ fjoin ! $ nothing ! $ fjoin ! $ move ! (2 ∷ 0 ∷ []) $ fjoin ! $ move ! (2 ∷ 0 ∷ []) $ fjoin ! $ move ! (1 ∷ 0 ∷ []) $ fjoin ! $
+        nothing ! $ move ! (2 ∷ 0 ∷ []) $ fjoin ! $ nothing ! $ fjoin ! $ nothing ! $ fjoin ! $ move ! (2 ∷ 0 ∷ []) $ fjoin ! $ move ! (2 ∷ 0 ∷ []) $ fjoin ! $ move ! (2 ∷ 0 ∷ []) $ fjoin ! $ move ! (1 ∷ 0 ∷ []) $ fjoin ! $
         owned ! O.the-row (Is O.the-row) (EL.makes O.the-type O′.the-plain 𝓤 H A) (r .answer) _ is $ move ! (1 ∷ 0 ∷ []) $ done !
 
     -- what the call by value is handed: the record as it lies, and all else as it came
@@ -149,7 +158,7 @@ module _ {M : Type 1} (𝓤 : URA M) (H : Heap 𝓤) (A : Atoms 𝓤) (mem′ : 
     to-core = ((κs .1, qs .1, tt, (session .now, a .1), (sessionVal (session .now) ∷ [], at .1)), tt)
 
     abbrev lent : Item 𝓤
-    lent = ‵ (owns (MutSlice (named 1) (κs .1 .0) u8 ∷ MutSlice (named 2) (κs .1 .1 .0) u8 ∷ u32 ∷ ShrSlice (named 3) (κs .1 .1 .1 .0) u8 ∷ MutSlice (named 4) (κs .1 .1 .1 .1 .0) u8 ∷ []) (a .1) (at .1))
+    lent = ‵ (owns (MutSlice (named 1) (κs .1 .0) u8 ∷ MutSlice (named 2) (κs .1 .1 .0) u8 ∷ MutSlice (named 3) (κs .1 .1 .1 .0) u8 ∷ u32 ∷ ShrSlice (named 4) (κs .1 .1 .1 .1 .0) u8 ∷ MutSlice (named 5) (κs .1 .1 .1 .1 .1 .0) u8 ∷ []) (a .1) (at .1))
 
     goes-core : ent 𝓤 (⋆ 𝓤 H A (toks ∷ ‵ (S.the-row .own (session .now) (sessionVal (session .now) ∷ [])) ∷ lent ∷ [])) (Core .pre to-core)
     goes-core =
@@ -157,60 +166,65 @@ module _ {M : Type 1} (𝓤 : URA M) (H : Heap 𝓤) (A : Atoms 𝓤) (mem′ : 
 
     module _ (C : Calls 𝓤 H) (Λ : Loops 𝓤 H) (fm : FmC 𝓤 H (W .laws) C) (known : Triple 𝓤 (C #core) Core) where
       abbrev passed : List Val
-      passed = vptr (session .ptr .0) (session .ptr .1) ∷ sliceAt main ∷ sliceAt image ∷ vint w32 wait ∷ sliceAt packet ∷ sliceAt area ∷ []
+      passed = vptr (session .ptr .0) (session .ptr .1) ∷ sliceAt main ∷ sliceAt image ∷ sliceAt window ∷ vint w32 wait ∷ sliceAt packet ∷ sliceAt area ∷ []
 
-      walk : Room u8 (length (main .now)) → Room u8 (length (image .now)) → wait < 2 ^ 32 → Room u8 (length (packet .now)) → Room u8 (length (area .now))
+      walk : Room u8 (length (main .now)) → Room u8 (length (image .now)) → Room u8 (length (window .now)) → wait < 2 ^ 32 → Room u8 (length (packet .now)) → Room u8 (length (area .now))
           → ent 𝓤 (onEntry 𝓤 H A self.signature κs qs a at) (WpFn 𝓤 H C Λ code.function passed Post)
-      walk main-room image-room fits packet-room area-room =
-          qed W ((‵ (flft (κs .0) (qs .0)) ⊛ toks) ∷ ‵ (owns (MutRef (named 0) (κs .0) S.the-row ∷ MutSlice (named 1) (κs .1 .0) u8 ∷ MutSlice (named 2) (κs .1 .1 .0) u8 ∷ u32 ∷ ShrSlice (named 3) (κs .1 .1 .1 .0) u8 ∷ MutSlice (named 4) (κs .1 .1 .1 .1 .0) u8 ∷ []) a at) ∷ []) ∵
+      walk main-room image-room window-room fits packet-room area-room =
+          qed W ((‵ (flft (κs .0) (qs .0)) ⊛ toks) ∷ ‵ (owns (MutRef (named 0) (κs .0) S.the-row ∷ MutSlice (named 1) (κs .1 .0) u8 ∷ MutSlice (named 2) (κs .1 .1 .0) u8 ∷ MutSlice (named 3) (κs .1 .1 .1 .0) u8 ∷ u32 ∷ ShrSlice (named 4) (κs .1 .1 .1 .1 .0) u8 ∷ MutSlice (named 5) (κs .1 .1 .1 .1 .1 .0) u8 ∷ []) a at) ∷ []) ∵
           split ! $ move ! (2 ∷ []) $ fsplit ! $ fsplit3 ! $ drop ! $ move ! (0 ∷ 1 ∷ 3 ∷ []) $
           -- [obs; the borrow; its token; what the slices and the wait own; their tokens]
           enter ! C Λ code.function passed _ $
-          alloc1 ! (λ l₀. alloc1 ! (λ l₁. alloc1 ! (λ l₂. alloc1 ! (λ l₃. alloc1 ! (λ l₄. alloc1 ! (λ l₅. alloc1 ! (λ l₆. alloc1 ! (λ l₇. alloc1 ! (λ l₈. alloc1 ! (λ l₉. alloc1 ! (λ l₁₀. alloc1 ! (λ l₁₁. alloc1 ! (λ l₁₂. alloc1 ! (λ l₁₃. alloc1 ! (λ l₁₄. alloc0 ! $ params1 ! $
-          pass1 ! (init ! 26 refl (tt, tt)) $ pass1 ! (init ! 24 refl (tt, (tt, (record { fits = main-room .0 }, tt)))) $ pass1 ! (init ! 22 refl (tt, (tt, (record { fits = image-room .0 }, tt)))) $
-          pass1 ! (init ! 20 refl (tt, record { fits = fits })) $ pass1 ! (init ! 18 refl (tt, (tt, (record { fits = packet-room .0 }, tt)))) $ pass1 ! (init ! 16 refl (tt, (tt, (record { fits = area-room .0 }, tt)))) $ pass0 ! $
-          move ! (30 ∷ 31 ∷ 32 ∷ []) $ takes-out ! tt (session .now) (session .ptr .0) (session .ptr .1) (λ held.
-          -- [what the record owns; its cell; the open borrow; obs; auth; _14; …; _0; …; what the slices and the wait own; their tokens]
-          assigns ! (of-opd ! (load ! (from ! (hop ! (look ! 31 refl) (stop !))) (look-raw ! 1 refl))) (from ! (stop !)) (init ! 17 refl (held-typed 𝓤 H A W (session .now) held)) $
-          assigns ! (addr ! (from ! (fld ! refl (hop ! (look-in ! 29 (sub ! 0 refl (whole !))) (stop !))))) (from ! (stop !)) (init ! 15 refl (tt, tt)) $
-          assigns ! (agg ! (and-then ! (load ! (from ! (stop !)) (look ! 15 refl)) (and-then ! (load ! (from ! (fld ! refl (stop !))) (look-in ! 29 (sub ! 1 refl (whole !)))) (no-more !)))) (from ! (stop !)) (init ! 13 refl (tt, (tt, (record { fits = main-room .0 }, tt)))) $
-          assigns ! (addr ! (from ! (fld ! refl (hop ! (look-in ! 27 (sub ! 0 refl (whole !))) (stop !))))) (from ! (stop !)) (init ! 11 refl (tt, tt)) $
-          assigns ! (agg ! (and-then ! (load ! (from ! (stop !)) (look ! 11 refl)) (and-then ! (load ! (from ! (fld ! refl (stop !))) (look-in ! 27 (sub ! 1 refl (whole !)))) (no-more !)))) (from ! (stop !)) (init ! 9 refl (tt, (tt, (record { fits = image-room .0 }, tt)))) $
-          assigns ! (addr ! (from ! (fld ! refl (hop ! (look-in ! 21 (sub ! 0 refl (whole !))) (stop !))))) (from ! (stop !)) (init ! 7 refl (tt, tt)) $
-          assigns ! (agg ! (and-then ! (load ! (from ! (stop !)) (look ! 7 refl)) (and-then ! (load ! (from ! (fld ! refl (stop !))) (look-in ! 21 (sub ! 1 refl (whole !)))) (no-more !)))) (from ! (stop !)) (init ! 5 refl (tt, (tt, (record { fits = area-room .0 }, tt)))) $
-          move ! (36 ∷ 0 ∷ 35 ∷ []) $ use3 W (raw (Core .pre to-core)) goes-core $
+          alloc1 ! (λ l₀. alloc1 ! (λ l₁. alloc1 ! (λ l₂. alloc1 ! (λ l₃. alloc1 ! (λ l₄. alloc1 ! (λ l₅. alloc1 ! (λ l₆. alloc1 ! (λ l₇. alloc1 ! (λ l₈. alloc1 ! (λ l₉. alloc1 ! (λ l₁₀. alloc1 ! (λ l₁₁. alloc1 ! (λ l₁₂. alloc1 ! (λ l₁₃. alloc1 ! (λ l₁₄. alloc1 ! (λ l₁₅. alloc1 ! (λ l₁₆. alloc1 ! (λ l₁₇. alloc0 ! $ params1 ! $
+          pass1 ! (init ! 32 refl (tt, tt)) $ pass1 ! (init ! 30 refl (tt, (tt, (record { fits = main-room .0 }, tt)))) $ pass1 ! (init ! 28 refl (tt, (tt, (record { fits = image-room .0 }, tt)))) $ pass1 ! (init ! 26 refl (tt, (tt, (record { fits = window-room .0 }, tt)))) $
+          pass1 ! (init ! 24 refl (tt, record { fits = fits })) $ pass1 ! (init ! 22 refl (tt, (tt, (record { fits = packet-room .0 }, tt)))) $ pass1 ! (init ! 20 refl (tt, (tt, (record { fits = area-room .0 }, tt)))) $ pass0 ! $
+          move ! (36 ∷ 37 ∷ 38 ∷ []) $ takes-out ! tt (session .now) (session .ptr .0) (session .ptr .1) (λ held.
+          -- [what the record owns; its cell; the open borrow; obs; auth; _17; …; _0; …; what the slices and the wait own; their tokens]
+          assigns ! (of-opd ! (load ! (from ! (hop ! (look ! 37 refl) (stop !))) (look-raw ! 1 refl))) (from ! (stop !)) (init ! 21 refl (held-typed 𝓤 H A W (session .now) held)) $
+          assigns ! (addr ! (from ! (fld ! refl (hop ! (look-in ! 35 (sub ! 0 refl (whole !))) (stop !))))) (from ! (stop !)) (init ! 19 refl (tt, tt)) $
+          assigns ! (agg ! (and-then ! (load ! (from ! (stop !)) (look ! 19 refl)) (and-then ! (load ! (from ! (fld ! refl (stop !))) (look-in ! 35 (sub ! 1 refl (whole !)))) (no-more !)))) (from ! (stop !)) (init ! 17 refl (tt, (tt, (record { fits = main-room .0 }, tt)))) $
+          assigns ! (addr ! (from ! (fld ! refl (hop ! (look-in ! 33 (sub ! 0 refl (whole !))) (stop !))))) (from ! (stop !)) (init ! 15 refl (tt, tt)) $
+          assigns ! (agg ! (and-then ! (load ! (from ! (stop !)) (look ! 15 refl)) (and-then ! (load ! (from ! (fld ! refl (stop !))) (look-in ! 33 (sub ! 1 refl (whole !)))) (no-more !)))) (from ! (stop !)) (init ! 13 refl (tt, (tt, (record { fits = image-room .0 }, tt)))) $
+          assigns ! (addr ! (from ! (fld ! refl (hop ! (look-in ! 31 (sub ! 0 refl (whole !))) (stop !))))) (from ! (stop !)) (init ! 11 refl (tt, tt)) $
+          assigns ! (agg ! (and-then ! (load ! (from ! (stop !)) (look ! 11 refl)) (and-then ! (load ! (from ! (fld ! refl (stop !))) (look-in ! 31 (sub ! 1 refl (whole !)))) (no-more !)))) (from ! (stop !)) (init ! 9 refl (tt, (tt, (record { fits = window-room .0 }, tt)))) $
+          assigns ! (addr ! (from ! (fld ! refl (hop ! (look-in ! 25 (sub ! 0 refl (whole !))) (stop !))))) (from ! (stop !)) (init ! 7 refl (tt, tt)) $
+          assigns ! (agg ! (and-then ! (load ! (from ! (stop !)) (look ! 7 refl)) (and-then ! (load ! (from ! (fld ! refl (stop !))) (look-in ! 25 (sub ! 1 refl (whole !)))) (no-more !)))) (from ! (stop !)) (init ! 5 refl (tt, (tt, (record { fits = area-room .0 }, tt)))) $
+          move ! (42 ∷ 0 ∷ 41 ∷ []) $ use3 W (raw (Core .pre to-core)) goes-core $
           calls-at ! fm Core known to-core
-          (and-then ! (load ! (from ! (stop !)) (look ! 17 refl)) (and-then ! (load ! (from ! (stop !)) (look ! 13 refl)) (and-then ! (load ! (from ! (stop !)) (look ! 9 refl)) (and-then ! (load ! (from ! (stop !)) (look ! 25 refl)) (and-then ! (load ! (from ! (stop !)) (look ! 23 refl)) (and-then ! (load ! (from ! (stop !)) (look ! 5 refl)) (no-more !))))))) (λ v.
+          (and-then ! (load ! (from ! (stop !)) (look ! 21 refl)) (and-then ! (load ! (from ! (stop !)) (look ! 17 refl)) (and-then ! (load ! (from ! (stop !)) (look ! 13 refl)) (and-then ! (load ! (from ! (stop !)) (look ! 9 refl)) (and-then ! (load ! (from ! (stop !)) (look ! 29 refl)) (and-then ! (load ! (from ! (stop !)) (look ! 27 refl)) (and-then ! (load ! (from ! (stop !)) (look ! 5 refl)) (no-more !)))))))) (λ v.
           use1 W (later (some (λ (r : Called). (toks ⊛ ‵ (R.the-row .own r (v ∷ []))) ⊛ raw (ensured 𝓤 H A core.ended (core.clauses 𝓤 H A mem′ run) (κs .1) (session .now, a .1) tt r)))) (id⊢ 𝓤 _) $ await ! tt $ pick ! (λ r.
           split ! $ move ! (1 ∷ []) $ use1 W (some (λ (zs : Ends). ‵ (lasts core.ended (κs .1) (session .now, a .1) zs) ⊛ raw (fact 𝓤 (Told r zs)))) (id⊢ 𝓤 _) $ pick ! (λ zs. split ! $ move ! (1 ∷ []) $ heard ! (Told r zs) (λ e.
           -- the last list of each slice
-          fsplit ! $ drop ! $ fsplit ! $ fsplit ! $ move ! (1 ∷ []) $ feqL ! (λ main-long. move ! (1 ∷ []) $ fsplit ! $ fsplit ! $ move ! (1 ∷ []) $ feqL ! (λ image-long. move ! (1 ∷ []) $ fsplit ! $ drop ! $ fsplit ! $ drop ! $ fsplit ! $ fsplit ! $ move ! (1 ∷ []) $ feqL ! (λ area-long.
-          -- [the area's; true; the image's; MAIN's; the tokens and what the call by value gave; the record's cell; the open borrow; obs; auth; _14; …]
-          move ! (4 ∷ []) $ split ! $ move ! (1 ∷ []) $ peeks ! R.the-row (Is R.the-row) (shows 𝓤 H A R.the-row) r (v ∷ []) (λ is.
-          land ! (from ! (stop !)) (init ! 24 refl (LL.lawful R.the-type R′.the-laws 𝓤 H A W .typed r _ is .0)) $
-          rewrite ! 24 (λ (u : Val). ‵ (fat fullShare R′.mir l₇ 0 u)) (ap only (LL.tells R.the-type R′.the-laws r _ is)) refl $
-          assigns ! (of-opd ! (load ! (from ! (fld ! refl (stop !))) (look-in ! 24 (sub ! 1 refl (whole !))))) (from ! (hop ! (look ! 36 refl) (stop !))) (store-raw ! 6 refl (held-typed 𝓤 H A W (r .session) (LL.owed R.the-type R′.the-laws r _ is .1 .0))) $
-          assigns ! (of-opd ! (load ! (from ! (fld ! refl (stop !))) (look-in ! 24 (sub ! 0 refl (whole !))))) (from ! (stop !)) (init ! 38 refl (EL.lawful O.the-type O′.the-laws 𝓤 H A W tt .typed (r .answer) _ (LL.owed R.the-type R′.the-laws r _ is .0) .0)) $
-          drop ! $ move ! (5 ∷ 6 ∷ 7 ∷ 8 ∷ []) $ puts-back ! tt (r .session) (session .ptr .0) (session .ptr .1) (LL.owed R.the-type R′.the-laws r _ is .1 .0) $
-          returns ! (look ! 36 refl) $
-          gives-up ! 36 refl refl $ gives-up ! 34 refl refl $ gives-up ! 32 refl refl $ gives-up ! 30 refl refl $ gives-up ! 28 refl refl $ gives-up ! 26 refl refl $ gives-up ! 24 refl refl $ gives-up ! 22 refl refl $ gives-up ! 20 refl refl $ gives-up ! 18 refl refl $ gives-up ! 16 refl refl $ gives-up ! 14 refl refl $ gives-up ! 12 refl refl $ gives-up ! 10 refl refl $ gives-up ! 8 refl refl $ free0 ! $
-          keep ! (0 ∷ 1 ∷ 2 ∷ 3 ∷ 4 ∷ 6 ∷ 7 ∷ []) $ by ! (exits r zs e main-long image-long area-long (LL.owed R.the-type R′.the-laws r _ is .0))))))))))))))))))))))))))
+          fsplit ! $ drop ! $ fsplit ! $ fsplit ! $ move ! (1 ∷ []) $ feqL ! (λ main-long. move ! (1 ∷ []) $ fsplit ! $ fsplit ! $ move ! (1 ∷ []) $ feqL ! (λ image-long. move ! (1 ∷ []) $ fsplit ! $ fsplit ! $ move ! (1 ∷ []) $ feqL ! (λ window-long. move ! (1 ∷ []) $ fsplit ! $ drop ! $ fsplit ! $ drop ! $ fsplit ! $ fsplit ! $ move ! (1 ∷ []) $ feqL ! (λ area-long.
+          -- [the area's; true; the window's; the image's; MAIN's; the tokens and what the call by value gave; the record's cell; the open borrow; obs; auth; _17; …]
+          move ! (5 ∷ []) $ split ! $ move ! (1 ∷ []) $ peeks ! R.the-row (Is R.the-row) (shows 𝓤 H A R.the-row) r (v ∷ []) (λ is.
+          land ! (from ! (stop !)) (init ! 29 refl (LL.lawful R.the-type R′.the-laws 𝓤 H A W .typed r _ is .0)) $
+          rewrite ! 29 (λ (u : Val). ‵ (fat fullShare R′.mir l₈ 0 u)) (ap only (LL.tells R.the-type R′.the-laws r _ is)) refl $
+          assigns ! (of-opd ! (load ! (from ! (fld ! refl (stop !))) (look-in ! 29 (sub ! 1 refl (whole !))))) (from ! (hop ! (look ! 43 refl) (stop !))) (store-raw ! 7 refl (held-typed 𝓤 H A W (r .session) (LL.owed R.the-type R′.the-laws r _ is .1 .0))) $
+          assigns ! (of-opd ! (load ! (from ! (fld ! refl (stop !))) (look-in ! 29 (sub ! 0 refl (whole !))))) (from ! (stop !)) (init ! 45 refl (EL.lawful O.the-type O′.the-laws 𝓤 H A W tt .typed (r .answer) _ (LL.owed R.the-type R′.the-laws r _ is .0) .0)) $
+          drop ! $ move ! (6 ∷ 7 ∷ 8 ∷ 9 ∷ []) $ puts-back ! tt (r .session) (session .ptr .0) (session .ptr .1) (LL.owed R.the-type R′.the-laws r _ is .1 .0) $
+          returns ! (look ! 43 refl) $
+          gives-up ! 43 refl refl $ gives-up ! 41 refl refl $ gives-up ! 39 refl refl $ gives-up ! 37 refl refl $ gives-up ! 35 refl refl $ gives-up ! 33 refl refl $ gives-up ! 31 refl refl $ gives-up ! 29 refl refl $ gives-up ! 27 refl refl $ gives-up ! 25 refl refl $ gives-up ! 23 refl refl $ gives-up ! 21 refl refl $ gives-up ! 19 refl refl $ gives-up ! 17 refl refl $ gives-up ! 15 refl refl $ gives-up ! 13 refl refl $ gives-up ! 11 refl refl $ gives-up ! 9 refl refl $ free0 ! $
+          keep ! (0 ∷ 1 ∷ 2 ∷ 3 ∷ 4 ∷ 6 ∷ 7 ∷ 8 ∷ []) $ by ! (exits r zs e main-long image-long window-long area-long (LL.owed R.the-type R′.the-laws r _ is .0))))))))))))))))))))))))))))))
 
   meets : (W : Given 𝓤 H A) (𝓣 : Tables 𝓤 H) → Triple 𝓤 (𝓣 .C #core) Core → Meets 𝓤 H A self.signature (WpFn 𝓤 H (𝓣 .C) (𝓣 .Λ) code.function) (self.spec 𝓤 H A mem′ run)
   meets W 𝓣 known =
       walk-meets 𝓤 H A self.ended stayed W (
-        goes-ref 𝓤 H A W 5 0 tt (plain (λ _. S.the-row)),
+        goes-ref 𝓤 H A W 6 0 tt (plain (λ _. S.the-row)),
         (
-          goes-gave-slice 𝓤 H A W 5 1 tt (plain (λ _. u8)),
+          goes-gave-slice 𝓤 H A W 6 1 tt (plain (λ _. u8)),
           (
-            goes-gave-slice 𝓤 H A W 5 2 tt (plain (λ _. u8)),
-            (goes-dropped 𝓤 H A W 5 (plain (λ _. u32)) yes (λ κs x f. refl), (goes-dropped 𝓤 H A W 5 (shrSliceOf (3 ∷ []) tt (plain (λ _. u8))) yes (λ κs x f. refl), (goes-gave-slice 𝓤 H A W 5 4 tt (plain (λ _. u8)), tt))),
+            goes-gave-slice 𝓤 H A W 6 2 tt (plain (λ _. u8)),
+            (
+              goes-gave-slice 𝓤 H A W 6 3 tt (plain (λ _. u8)),
+              (goes-dropped 𝓤 H A W 6 (plain (λ _. u32)) yes (λ κs x f. refl), (goes-dropped 𝓤 H A W 6 (shrSliceOf (4 ∷ []) tt (plain (λ _. u8))) yes (λ κs x f. refl), (goes-gave-slice 𝓤 H A W 6 5 tt (plain (λ _. u8)), tt))),
+            ),
           ),
         ),
       ) (self.clauses 𝓤 H A mem′ run) (WpFn 𝓤 H (𝓣 .C) (𝓣 .Λ) code.function) (WpFn-mono 𝓤 H (W .laws) 𝓣 code.function)
-      (walked 𝓤 H A self.ended stayed (self.clauses 𝓤 H A mem′ run) (WpFn 𝓤 H (𝓣 .C) (𝓣 .Λ) code.function) (λ κs. (ptr-vals, (slice-vals, (slice-vals, (uint-vals w32, (slice-vals, (slice-vals, tt)))))))
-      (λ κs. (mut-tells (named 0) (κs .0) S.the-row, (mut-slice-tells (named 1) (κs .1 .0) u8, (mut-slice-tells (named 2) (κs .1 .1 .0) u8, (uint-tells w32, (shr-slice-tells (named 3) (κs .1 .1 .1 .0) u8, (mut-slice-tells (named 4) (κs .1 .1 .1 .1 .0) u8, tt)))))))
-      (λ κs qs bounds a g are. via 𝓤 _ (fst∗ 𝓤 _ (emp 𝓤)) (walk W κs qs a (𝓣 .C) (𝓣 .Λ) (fmOf 𝓤 H (W .laws) 𝓣) known (are .1 .0 .0 .1) (are .1 .1 .0 .0 .1) (are .1 .1 .1 .0 .1) (are .1 .1 .1 .1 .0 .0 .1) (are .1 .1 .1 .1 .1 .0 .0 .1))))
+      (walked 𝓤 H A self.ended stayed (self.clauses 𝓤 H A mem′ run) (WpFn 𝓤 H (𝓣 .C) (𝓣 .Λ) code.function) (λ κs. (ptr-vals, (slice-vals, (slice-vals, (slice-vals, (uint-vals w32, (slice-vals, (slice-vals, tt))))))))
+      (λ κs. (mut-tells (named 0) (κs .0) S.the-row, (mut-slice-tells (named 1) (κs .1 .0) u8, (mut-slice-tells (named 2) (κs .1 .1 .0) u8, (mut-slice-tells (named 3) (κs .1 .1 .1 .0) u8, (uint-tells w32, (shr-slice-tells (named 4) (κs .1 .1 .1 .1 .0) u8, (mut-slice-tells (named 5) (κs .1 .1 .1 .1 .1 .0) u8, tt))))))))
+      (λ κs qs bounds a g are. via 𝓤 _ (fst∗ 𝓤 _ (emp 𝓤)) (walk W κs qs a (𝓣 .C) (𝓣 .Λ) (fmOf 𝓤 H (W .laws) 𝓣) known (are .1 .0 .0 .1) (are .1 .1 .0 .0 .1) (are .1 .1 .1 .0 .0 .1) (are .1 .1 .1 .1 .0 .1) (are .1 .1 .1 .1 .1 .0 .0 .1) (are .1 .1 .1 .1 .1 .1 .0 .0 .1))))
 
 pub call-spec : {M : Type 1} → stated.statement M
 unfolding code.routine tablesOf

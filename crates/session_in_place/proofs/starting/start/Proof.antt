@@ -60,11 +60,11 @@ use Rattle.session_in_place.proofs.starting.start as self
 use Rattle.session_in_place.proofs.starting.start.Statement as stated
 use Rattle.session_in_place.proofs.starting.start.Code as code
 
--- the record is had at the end; of the fuse and the images nothing is said
+-- the record is had at the end; of the fuse, the images and the window nothing is said
 abbrev stayed : Stays (self.ended .signature .params) (self.ended .kept)
 stayed = (
   stay-ref (0 ∷ []) tt (plain (λ _. S.the-row)),
-  (stay-dropped (plain (λ _. bool)) yes, (stay-dropped (shrSliceOf (1 ∷ []) tt (plain (λ _. u8))) yes, (stay-dropped (shrSliceOf (2 ∷ []) tt (plain (λ _. u8))) yes, tt))),
+  (stay-dropped (plain (λ _. bool)) yes, (stay-dropped (shrSliceOf (1 ∷ []) tt (plain (λ _. u8))) yes, (stay-dropped (shrSliceOf (2 ∷ []) tt (plain (λ _. u8))) yes, (stay-dropped (shrSliceOf (3 ∷ []) tt (plain (λ _. u8))) yes, tt)))),
 )
 
 module _ {M : Type 1} (𝓤 : URA M) (H : Heap 𝓤) (A : Atoms 𝓤) (mem′ : Memory → SProp 𝓤) (run : Routine → Fun 𝓤) where
@@ -72,7 +72,7 @@ module _ {M : Type 1} (𝓤 : URA M) (H : Heap 𝓤) (A : Atoms 𝓤) (mem′ : 
   abbrev Core : Contract 𝓤
   Core = tripleOf 𝓤 H A core.signature (core.spec 𝓤 H A mem′ run)
 
-  module _ (W : Given 𝓤 H A) (κs : Lfts 3) (qs : Shares 3) (a : Args self.signature κs) where
+  module _ (W : Given 𝓤 H A) (κs : Lfts 4) (qs : Shares 4) (a : Args self.signature κs) where
     -- the arguments, and what the machine holds of them
     abbrev session : RefT Session
     session = a .0
@@ -86,18 +86,21 @@ module _ {M : Type 1} (𝓤 : URA M) (H : Heap 𝓤) (A : Atoms 𝓤) (mem′ : 
     abbrev image : RefT (List ℕ)
     image = a .1 .1 .1 .0
 
+    abbrev window : RefT (List ℕ)
+    window = a .1 .1 .1 .1 .0
+
     abbrev at : Vals self.signature κs
-    at = (vptr (session .ptr .0) (session .ptr .1) ∷ [], (vbool fuse ∷ [], (sliceAt main ∷ [], (sliceAt image ∷ [], tt))))
+    at = (vptr (session .ptr .0) (session .ptr .1) ∷ [], (vbool fuse ∷ [], (sliceAt main ∷ [], (sliceAt image ∷ [], (sliceAt window ∷ [], tt)))))
 
     abbrev Post : Val → SProp 𝓤
     Post = walkOf 𝓤 H A self.ended stayed (self.clauses 𝓤 H A mem′ run) .post ((κs, qs, tt, a, at), tt)
 
     -- the tokens that the start by value is handed
     abbrev toks : Item 𝓤
-    toks = ‵ (flft (κs .1 .0) (qs .1 .0)) ⊛ ‵ (flft (κs .1 .1 .0) (qs .1 .1 .0)) ⊛ ‵ ftrue
+    toks = ‵ (flft (κs .1 .0) (qs .1 .0)) ⊛ ‵ (flft (κs .1 .1 .0) (qs .1 .1 .0)) ⊛ ‵ (flft (κs .1 .1 .1 .0) (qs .1 .1 .1 .0)) ⊛ ‵ ftrue
 
     abbrev Told : Started → Type 0
-    Told r = startTold r ≡ startInPlace (session .now) fuse (main .now) (image .now)
+    Told r = startTold r ≡ startInPlace (session .now) fuse (main .now) (image .now) (window .now)
 
     -- what is had of the record at the end
     abbrev ended : Session → List (Item 𝓤)
@@ -109,9 +112,9 @@ module _ {M : Type 1} (𝓤 : URA M) (H : Heap 𝓤) (A : Atoms 𝓤) (mem′ : 
     exits : (r : Started) → Told r → Is O.the-row (r .answer) (answerVal r ∷ []) → ent 𝓤 (⋆ 𝓤 H A (ended (r .session))) (Post (answerVal r))
     exits r e is =
         qed W (ended (r .session)) ∵
-        suffices ! _ (ends-at 𝓤 H A self.ended stayed (self.clauses 𝓤 H A mem′ run) W ((κs, qs, tt, a, at), tt) (answerVal r) (r .answer) (r .session, (tt, (tt, (tt, tt)))) (tt, (tt, (tt, (tt, tt))))) $ says ! e $
+        suffices ! _ (ends-at 𝓤 H A self.ended stayed (self.clauses 𝓤 H A mem′ run) W ((κs, qs, tt, a, at), tt) (answerVal r) (r .answer) (r .session, (tt, (tt, (tt, (tt, tt))))) (tt, (tt, (tt, (tt, (tt, tt)))))) $ says ! e $
         move ! (2 ∷ 3 ∷ []) $ join ! $ frame ! $ feqI ! (List Val) (at .0) (at .0) refl $ fjoin3 ! $
-        nothing ! $ nothing ! $ fjoin ! $ nothing ! $ fjoin ! $ nothing ! $ fjoin ! $ move ! (1 ∷ 0 ∷ []) $ fjoin ! $
+        nothing ! $ nothing ! $ fjoin ! $ nothing ! $ fjoin ! $ nothing ! $ fjoin ! $ nothing ! $ fjoin ! $ move ! (1 ∷ 0 ∷ []) $ fjoin ! $
         owned ! O.the-row (Is O.the-row) (EL.makes O.the-type O′.the-plain 𝓤 H A) (r .answer) _ is $ move ! (1 ∷ 0 ∷ []) $ done !
 
     -- what the start by value is handed: the record as it lies, and all else as it came
@@ -119,7 +122,7 @@ module _ {M : Type 1} (𝓤 : URA M) (H : Heap 𝓤) (A : Atoms 𝓤) (mem′ : 
     to-core = ((κs .1, qs .1, tt, (session .now, a .1), (sessionVal (session .now) ∷ [], at .1)), tt)
 
     abbrev lent : Item 𝓤
-    lent = ‵ (owns (bool ∷ ShrSlice (named 1) (κs .1 .0) u8 ∷ ShrSlice (named 2) (κs .1 .1 .0) u8 ∷ []) (a .1) (at .1))
+    lent = ‵ (owns (bool ∷ ShrSlice (named 1) (κs .1 .0) u8 ∷ ShrSlice (named 2) (κs .1 .1 .0) u8 ∷ ShrSlice (named 3) (κs .1 .1 .1 .0) u8 ∷ []) (a .1) (at .1))
 
     goes-core : ent 𝓤 (⋆ 𝓤 H A (toks ∷ ‵ (S.the-row .own (session .now) (sessionVal (session .now) ∷ [])) ∷ lent ∷ [])) (Core .pre to-core)
     goes-core =
@@ -131,45 +134,45 @@ module _ {M : Type 1} (𝓤 : URA M) (H : Heap 𝓤) (A : Atoms 𝓤) (mem′ : 
 
     module _ (C : Calls 𝓤 H) (Λ : Loops 𝓤 H) (fm : FmC 𝓤 H (W .laws) C) (known : Triple 𝓤 (C #core) Core) where
       abbrev passed : List Val
-      passed = vptr (session .ptr .0) (session .ptr .1) ∷ vbool fuse ∷ sliceAt main ∷ sliceAt image ∷ []
+      passed = vptr (session .ptr .0) (session .ptr .1) ∷ vbool fuse ∷ sliceAt main ∷ sliceAt image ∷ sliceAt window ∷ []
 
-      walk : Room u8 (length (main .now)) → Room u8 (length (image .now))
+      walk : Room u8 (length (main .now)) → Room u8 (length (image .now)) → Room u8 (length (window .now))
           → ent 𝓤 (onEntry 𝓤 H A self.signature κs qs a at) (WpFn 𝓤 H C Λ code.function passed Post)
-      walk main-room image-room =
-          qed W ((‵ (flft (κs .0) (qs .0)) ⊛ toks) ∷ ‵ (owns (MutRef (named 0) (κs .0) S.the-row ∷ bool ∷ ShrSlice (named 1) (κs .1 .0) u8 ∷ ShrSlice (named 2) (κs .1 .1 .0) u8 ∷ []) a at) ∷ []) ∵
+      walk main-room image-room window-room =
+          qed W ((‵ (flft (κs .0) (qs .0)) ⊛ toks) ∷ ‵ (owns (MutRef (named 0) (κs .0) S.the-row ∷ bool ∷ ShrSlice (named 1) (κs .1 .0) u8 ∷ ShrSlice (named 2) (κs .1 .1 .0) u8 ∷ ShrSlice (named 3) (κs .1 .1 .1 .0) u8 ∷ []) a at) ∷ []) ∵
           split ! $ move ! (2 ∷ []) $ fsplit ! $ fsplit3 ! $ drop ! $ move ! (0 ∷ 1 ∷ 3 ∷ []) $
-          -- [obs; the borrow; its token; what the fuse and the images own; their tokens]
+          -- [obs; the borrow; its token; what the fuse and the slices own; their tokens]
           enter ! C Λ code.function passed _ $
-          alloc1 ! (λ l₀. alloc1 ! (λ l₁. alloc1 ! (λ l₂. alloc1 ! (λ l₃. alloc1 ! (λ l₄. alloc1 ! (λ l₅. alloc1 ! (λ l₆. alloc0 ! $ params1 ! $
-          pass1 ! (init ! 10 refl (tt, tt)) $ pass1 ! (init ! 8 refl (tt, tt)) $ pass1 ! (init ! 6 refl (tt, (tt, (record { fits = main-room .0 }, tt)))) $ pass1 ! (init ! 4 refl (tt, (tt, (record { fits = image-room .0 }, tt)))) $ pass0 ! $
-          move ! (14 ∷ 15 ∷ 16 ∷ []) $ takes-out ! tt (session .now) (session .ptr .0) (session .ptr .1) (λ held.
-          -- [what the record owns; its cell; the open borrow; obs; auth; _6; …; _0; …; what the fuse and the images own; their tokens]
-          assigns ! (of-opd ! (load ! (from ! (hop ! (look ! 15 refl) (stop !))) (look-raw ! 1 refl))) (from ! (stop !)) (init ! 5 refl (held-typed 𝓤 H A W (session .now) held)) $
-          move ! (20 ∷ 0 ∷ 19 ∷ []) $ use3 W (raw (Core .pre to-core)) goes-core $
+          alloc1 ! (λ l₀. alloc1 ! (λ l₁. alloc1 ! (λ l₂. alloc1 ! (λ l₃. alloc1 ! (λ l₄. alloc1 ! (λ l₅. alloc1 ! (λ l₆. alloc1 ! (λ l₇. alloc0 ! $ params1 ! $
+          pass1 ! (init ! 12 refl (tt, tt)) $ pass1 ! (init ! 10 refl (tt, tt)) $ pass1 ! (init ! 8 refl (tt, (tt, (record { fits = main-room .0 }, tt)))) $ pass1 ! (init ! 6 refl (tt, (tt, (record { fits = image-room .0 }, tt)))) $ pass1 ! (init ! 4 refl (tt, (tt, (record { fits = window-room .0 }, tt)))) $ pass0 ! $
+          move ! (16 ∷ 17 ∷ 18 ∷ []) $ takes-out ! tt (session .now) (session .ptr .0) (session .ptr .1) (λ held.
+          -- [what the record owns; its cell; the open borrow; obs; auth; _7; …; _0; …; what the fuse and the slices own; their tokens]
+          assigns ! (of-opd ! (load ! (from ! (hop ! (look ! 17 refl) (stop !))) (look-raw ! 1 refl))) (from ! (stop !)) (init ! 5 refl (held-typed 𝓤 H A W (session .now) held)) $
+          move ! (22 ∷ 0 ∷ 21 ∷ []) $ use3 W (raw (Core .pre to-core)) goes-core $
           calls-at ! fm Core known to-core
-          (and-then ! (load ! (from ! (stop !)) (look ! 5 refl)) (and-then ! (load ! (from ! (stop !)) (look ! 13 refl)) (and-then ! (load ! (from ! (stop !)) (look ! 11 refl)) (and-then ! (load ! (from ! (stop !)) (look ! 9 refl)) (no-more !))))) (λ v.
+          (and-then ! (load ! (from ! (stop !)) (look ! 5 refl)) (and-then ! (load ! (from ! (stop !)) (look ! 15 refl)) (and-then ! (load ! (from ! (stop !)) (look ! 13 refl)) (and-then ! (load ! (from ! (stop !)) (look ! 11 refl)) (and-then ! (load ! (from ! (stop !)) (look ! 9 refl)) (no-more !)))))) (λ v.
           use1 W (later (some (λ (r : Started). (toks ⊛ ‵ (R.the-row .own r (v ∷ []))) ⊛ raw (ensured 𝓤 H A core.ended (core.clauses 𝓤 H A mem′ run) (κs .1) (session .now, a .1) tt r)))) (id⊢ 𝓤 _) $ await ! tt $ pick ! (λ r.
           split ! $ move ! (1 ∷ []) $ use1 W (raw (fact 𝓤 (Told r))) (told r) $ heard ! (Told r) (λ e. split ! $ move ! (1 ∷ []) $
           peeks ! R.the-row (Is R.the-row) (shows 𝓤 H A R.the-row) r (v ∷ []) (λ is.
           land ! (from ! (stop !)) (init ! 8 refl (LL.lawful R.the-type R′.the-laws 𝓤 H A W .typed r _ is .0)) $
-          rewrite ! 8 (λ (u : Val). ‵ (fat fullShare R′.mir l₅ 0 u)) (ap only (LL.tells R.the-type R′.the-laws r _ is)) refl $
-          -- [what the start by value gave; the tokens; the record's cell; the open borrow; obs; auth; _6; …], with it in _5
-          assigns ! (of-opd ! (load ! (from ! (fld ! refl (stop !))) (look-in ! 8 (sub ! 1 refl (whole !))))) (from ! (hop ! (look ! 16 refl) (stop !))) (store-raw ! 2 refl (held-typed 𝓤 H A W (r .session) (LL.owed R.the-type R′.the-laws r _ is .1 .0))) $
-          assigns ! (of-opd ! (load ! (from ! (fld ! refl (stop !))) (look-in ! 8 (sub ! 0 refl (whole !))))) (from ! (stop !)) (init ! 18 refl (EL.lawful O.the-type O′.the-laws 𝓤 H A W tt .typed (r .answer) _ (LL.owed R.the-type R′.the-laws r _ is .0) .0)) $
+          rewrite ! 8 (λ (u : Val). ‵ (fat fullShare R′.mir l₆ 0 u)) (ap only (LL.tells R.the-type R′.the-laws r _ is)) refl $
+          -- [what the start by value gave; the tokens; the record's cell; the open borrow; obs; auth; _7; …], with it in _6
+          assigns ! (of-opd ! (load ! (from ! (fld ! refl (stop !))) (look-in ! 8 (sub ! 1 refl (whole !))))) (from ! (hop ! (look ! 18 refl) (stop !))) (store-raw ! 2 refl (held-typed 𝓤 H A W (r .session) (LL.owed R.the-type R′.the-laws r _ is .1 .0))) $
+          assigns ! (of-opd ! (load ! (from ! (fld ! refl (stop !))) (look-in ! 8 (sub ! 0 refl (whole !))))) (from ! (stop !)) (init ! 20 refl (EL.lawful O.the-type O′.the-laws 𝓤 H A W tt .typed (r .answer) _ (LL.owed R.the-type R′.the-laws r _ is .0) .0)) $
           drop ! $ move ! (1 ∷ 2 ∷ 3 ∷ 4 ∷ []) $ puts-back ! tt (r .session) (session .ptr .0) (session .ptr .1) (LL.owed R.the-type R′.the-laws r _ is .1 .0) $
-          returns ! (look ! 16 refl) $
-          gives-up ! 16 refl refl $ gives-up ! 14 refl refl $ gives-up ! 12 refl refl $ gives-up ! 10 refl refl $ gives-up ! 8 refl refl $ gives-up ! 6 refl refl $ gives-up ! 4 refl refl $ free0 ! $
-          by ! (exits r e (LL.owed R.the-type R′.the-laws r _ is .0))))))))))))))
+          returns ! (look ! 18 refl) $
+          gives-up ! 18 refl refl $ gives-up ! 16 refl refl $ gives-up ! 14 refl refl $ gives-up ! 12 refl refl $ gives-up ! 10 refl refl $ gives-up ! 8 refl refl $ gives-up ! 6 refl refl $ gives-up ! 4 refl refl $ free0 ! $
+          by ! (exits r e (LL.owed R.the-type R′.the-laws r _ is .0)))))))))))))))
 
   meets : (W : Given 𝓤 H A) (𝓣 : Tables 𝓤 H) → Triple 𝓤 (𝓣 .C #core) Core → Meets 𝓤 H A self.signature (WpFn 𝓤 H (𝓣 .C) (𝓣 .Λ) code.function) (self.spec 𝓤 H A mem′ run)
   meets W 𝓣 known =
       walk-meets 𝓤 H A self.ended stayed W (
-        goes-ref 𝓤 H A W 3 0 tt (plain (λ _. S.the-row)),
-        (goes-dropped 𝓤 H A W 3 (plain (λ _. bool)) yes (λ κs x f. refl), (goes-dropped 𝓤 H A W 3 (shrSliceOf (1 ∷ []) tt (plain (λ _. u8))) yes (λ κs x f. refl), (goes-dropped 𝓤 H A W 3 (shrSliceOf (2 ∷ []) tt (plain (λ _. u8))) yes (λ κs x f. refl), tt))),
+        goes-ref 𝓤 H A W 4 0 tt (plain (λ _. S.the-row)),
+        (goes-dropped 𝓤 H A W 4 (plain (λ _. bool)) yes (λ κs x f. refl), (goes-dropped 𝓤 H A W 4 (shrSliceOf (1 ∷ []) tt (plain (λ _. u8))) yes (λ κs x f. refl), (goes-dropped 𝓤 H A W 4 (shrSliceOf (2 ∷ []) tt (plain (λ _. u8))) yes (λ κs x f. refl), (goes-dropped 𝓤 H A W 4 (shrSliceOf (3 ∷ []) tt (plain (λ _. u8))) yes (λ κs x f. refl), tt)))),
       ) (self.clauses 𝓤 H A mem′ run) (WpFn 𝓤 H (𝓣 .C) (𝓣 .Λ) code.function) (WpFn-mono 𝓤 H (W .laws) 𝓣 code.function)
-      (walked 𝓤 H A self.ended stayed (self.clauses 𝓤 H A mem′ run) (WpFn 𝓤 H (𝓣 .C) (𝓣 .Λ) code.function) (λ κs. (ptr-vals, (bool-vals, (slice-vals, (slice-vals, tt)))))
-      (λ κs. (mut-tells (named 0) (κs .0) S.the-row, (bool-tells, (shr-slice-tells (named 1) (κs .1 .0) u8, (shr-slice-tells (named 2) (κs .1 .1 .0) u8, tt)))))
-      (λ κs qs bounds a g are. via 𝓤 _ (fst∗ 𝓤 _ (emp 𝓤)) (walk W κs qs a (𝓣 .C) (𝓣 .Λ) (fmOf 𝓤 H (W .laws) 𝓣) known (are .1 .1 .0 .0 .1) (are .1 .1 .1 .0 .0 .1))))
+      (walked 𝓤 H A self.ended stayed (self.clauses 𝓤 H A mem′ run) (WpFn 𝓤 H (𝓣 .C) (𝓣 .Λ) code.function) (λ κs. (ptr-vals, (bool-vals, (slice-vals, (slice-vals, (slice-vals, tt))))))
+      (λ κs. (mut-tells (named 0) (κs .0) S.the-row, (bool-tells, (shr-slice-tells (named 1) (κs .1 .0) u8, (shr-slice-tells (named 2) (κs .1 .1 .0) u8, (shr-slice-tells (named 3) (κs .1 .1 .1 .0) u8, tt))))))
+      (λ κs qs bounds a g are. via 𝓤 _ (fst∗ 𝓤 _ (emp 𝓤)) (walk W κs qs a (𝓣 .C) (𝓣 .Λ) (fmOf 𝓤 H (W .laws) 𝓣) known (are .1 .1 .0 .0 .1) (are .1 .1 .1 .0 .0 .1) (are .1 .1 .1 .1 .0 .0 .1))))
 
 pub start-spec : {M : Type 1} → stated.statement M
 unfolding code.routine tablesOf
