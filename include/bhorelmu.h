@@ -8,8 +8,8 @@
 #include <stddef.h>
 #include <stdint.h>
 
-#define BHORELMU_VERSION "3.0.0"
-#define BHORELMU_VERSION_NUMBER 30000 /* 10,000 for each major version, 100 for each minor, 1 for each patch */
+#define BHORELMU_VERSION "3.0.1"
+#define BHORELMU_VERSION_NUMBER 30001 /* 10,000 for each major version, 100 for each minor, 1 for each patch */
 
 /*
  * The device side of one boot loader session, on numbers and byte areas. docs/RECORD.md tells the same at length, and
@@ -23,6 +23,9 @@
  *  - the areas of one call do not overlap;
  *  - each call is lent the record that the call before it left, and both flash areas and the window as that call left
  *    them; no function here clears the window;
+ *  - each start is lent a window of zeros: what one session left there the next could read;
+ *  - where the flash areas are copies, what a call has erased is carried over MAIN first and the settings last, as it is
+ *    done in the areas: a cut of the power between the two must not leave a public password beside names in MAIN;
  *  - the wait of a refused call is added to the next wait, for the record has not moved;
  *  - a reply is sent at the rate that the record had before the call, and the next packet is received at the rate it
  *    has after it;

@@ -18,7 +18,7 @@ import sys
 import tarfile
 
 COMMENT = re.compile(r"^\s*(?:--|//).*\n", re.M)
-ITEM = re.compile(r"^(?:(?:unfoldable |abbrev )?(?:pub )?(record )?([^\s():]+) :\s|(?:unfoldable |abbrev )?(?:pub )?(record) (\S+) )")
+ITEM = re.compile(r"^(?:(?:unfoldable |abbrev )?(?:pub )?(record )?([^\s():]+) :\s|(?:unfoldable |abbrev )?(?:pub )?(record|data) (\S+) )")
 IN_MODULE = re.compile(r"^  (?:unfoldable |abbrev )?pub ([^\s():]+) :\s")
 TYPE = re.compile(r"^(?:pub(?:\(crate\))? )?(struct|enum|const) (\w+).*?(?:^\}|;$)", re.M | re.S)
 FUNCTION = re.compile(r'^ *(?:pub(?:\(crate\))? )?(?:extern "C" )?fn (\w+).*?(?=^ *\{ *$)', re.M | re.S)
@@ -51,7 +51,7 @@ def folded(text):
 
 
 def defined_in(text):
-    """The definitions of a file of `specs/`: name and text. What stands within a record is the record's."""
+    """The definitions of a file of `specs/`: name and text. What stands within a record or a data type is its own."""
     name, lines, within_record = None, [], False
     for line in COMMENT.sub("", text).splitlines():
         found = ITEM.match(line)

@@ -24,10 +24,10 @@ NAME_OF_OWNER = re.compile(r"`(\w+)::(\w+)`")
 PLACEHOLDER = re.compile(r"\b(CRATE|MODULE|FUNCTION|NAME)\b")
 
 # How a file defines. What is declared with its type is unindented or public: what is local to a proof cannot be cited. The parts
-# of a record stand two spaces in, those of a struct or an enum four.
+# of a record and the cases of a data type stand two spaces in, those of a struct or an enum four.
 DECLARED = re.compile(r"^(?: *(?:unfoldable |abbrev )?pub |(?:unfoldable |abbrev )?)([^\s():]+) :\s", re.M)
 ITEM = re.compile(r'^(?:pub(?:\(crate\))? )?(?:extern "C" )?(?:fn|const|mod) (\w+)', re.M)
-OWNER = re.compile(r"^(?:pub(?:\(crate\))? )?(?:record|struct|enum) (\w+).*\n((?:(?: .*)?\n)*)", re.M)
+OWNER = re.compile(r"^(?:pub(?:\(crate\))? )?(?:record|data|struct|enum) (\w+).*\n((?:(?: .*)?\n)*)", re.M)
 PART = re.compile(r"^(?:  |    )(?:pub )?(\w[\w'-]*)(?: ?:|,|\(| \{)", re.M)
 PARAMETER = re.compile(r"(\w+): ")
 FROM_LIBRARY = re.compile(r"^(?:ghost )?use (?:Prim|mathlib|lib|borrow\.Author)\.[^{\n]*\{([^}]*)\}", re.M)
@@ -48,7 +48,7 @@ def sources(place):
 
 
 def parts_of_owners(place):
-    """The fields and cases of each record, struct and enum that is defined at a place."""
+    """The fields and cases of each record, data type, struct and enum that is defined at a place."""
     parts = collections.defaultdict(set)
     for path in sources(place):
         for owner, body in OWNER.findall(path.read_text()):

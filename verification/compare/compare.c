@@ -2,9 +2,9 @@
  * Holds the product (bhorelmu_*) against the model (model_*): random boards and sessions, every area and answer
  * compared after every call.
  *
- *     compare SEEDS [FIRST_SEED]
+ *     compare SEEDS [FIRST_SEED [pairs]]
  *
- * A seed is a board and CALLS_A_SEED calls. Ends with 0 where all agree, 1 at a difference, 2 for a wrong command line,
+ * A seed is a board and CALLS_A_SEED calls, and then a play on a pair of boards; with `pairs` it is the play alone. Ends with 0 where all agree, 1 at a difference, 2 for a wrong command line,
  * and 3 where a run of GATE_CALLS or more has missed something that it should have seen.
  */
 
@@ -13,6 +13,7 @@
 #include "dice.h"
 #include "finding.h"
 #include "observe.h"
+#include "play.h"
 #include "script.h"
 #include "sessions.h"
 #include "shrink.h"
@@ -21,6 +22,7 @@
 
 #include <signal.h>
 #include <stdlib.h>
+#include <string.h>
 
 enum { CALLS_A_SEED = 100, GATE_CALLS = 200000, SEEDS_A_LINE = 5000 };
 
@@ -65,6 +67,17 @@ static bool seed_agrees(uint64_t seed)
     return true;
 }
 
+/* What is done for a seed. */
+static bool all_agree(uint64_t seed)
+{
+    if (!seed_agrees(seed)) {
+        report_difference(stdout, &script);
+        return false;
+    }
+    free_steps(&script);
+    return play_agrees(seed);
+}
+
 static bool read_number(const char *text, uint64_t *number)
 {
     char *end;
@@ -84,8 +97,9 @@ static int judge_coverage(uint64_t calls)
 int main(int argc, char **argv)
 {
     uint64_t seeds = 0, first = 1;
-    if (argc < 2 || argc > 3 || !read_number(argv[1], &seeds) || (argc == 3 && !read_number(argv[2], &first))) {
-        fputs("usage: compare SEEDS [FIRST_SEED]\n", stderr);
+    bool pairs = argc == 4 && strcmp(argv[3], "pairs") == 0;
+    if (argc < 2 || argc > 3 + pairs || !read_number(argv[1], &seeds) || (argc > 2 && !read_number(argv[2], &first))) {
+        fputs("usage: compare SEEDS [FIRST_SEED [pairs]]\n", stderr);
         return 2;
     }
     signal(SIGSEGV, break_down);
@@ -93,14 +107,13 @@ int main(int argc, char **argv)
     signal(SIGFPE, break_down);
     signal(SIGILL, break_down);
     for (uint64_t seed = first; seed - first < seeds; seed++) {
-        if (!seed_agrees(seed)) {
-            report_difference(stdout, &script);
+        if (pairs ? !play_agrees(seed) : !all_agree(seed))
             return 1;
-        }
-        free_steps(&script);
         if ((seed - first + 1) % SEEDS_A_LINE == 0)
             fprintf(stderr, "%llu calls agree\n", (unsigned long long)(seed - first + 1) * CALLS_A_SEED);
     }
+    if (pairs)
+        return 0;
     if (!wide_sizes_agree())
         return 1;
     int result = judge_coverage(seeds * CALLS_A_SEED);

@@ -14,29 +14,34 @@ for source in $comparison_sources; do
     $compile -c "$source" -o "$work/$(basename "$source" .c).o" || exit 2
 done
 
-# A mistake: its name, then how sed puts it into model.c. That Program stores and makes no AND is none: it programs what is 0xFF (T-02).
+# Reads mistakes, each its name and how sed puts it into model.c, and looks whether the comparison finds them. The words go to the comparison.
 missed=0
 tried=0
-while IFS='@' read -r mistake edit; do
-    tried=$((tried + 1))
-    sed "$edit" verification/model/model.c >"$work/mutant.c"
-    if cmp -s verification/model/model.c "$work/mutant.c"; then
-        echo "NOT MADE   $mistake"
-        missed=$((missed + 1))
-        continue
-    fi
-    rm -f "$work/compare"
-    $compile $names -c "$work/mutant.c" -o "$work/mutant.out" &&
-        $cc "$work"/*.o "$work/mutant.out" -o "$work/compare" || exit 2
-    $run "$work/compare" "$seeds" >"$work/report" 2>/dev/null
-    if [ $? -ne 1 ]; then
-        echo "NOT FOUND  $mistake"
-        missed=$((missed + 1))
-        continue
-    fi
-    steps=$(sed -n 's/ of [0-9]* steps.*//p' "$work/report")
-    echo "found      $mistake ($(sed -n 's/^difference: //p' "$work/report" | head -n 1)${steps:+, $steps steps})"
-done <<'MISTAKES'
+try_mistakes() { # WORDS..
+    while IFS='@' read -r mistake edit; do
+        tried=$((tried + 1))
+        sed "$edit" verification/model/model.c >"$work/mutant.c"
+        if cmp -s verification/model/model.c "$work/mutant.c"; then
+            echo "NOT MADE   $mistake"
+            missed=$((missed + 1))
+            continue
+        fi
+        rm -f "$work/compare"
+        $compile $names -c "$work/mutant.c" -o "$work/mutant.out" &&
+            $cc "$work"/*.o "$work/mutant.out" -o "$work/compare" || exit 2
+        $run "$work/compare" "$seeds" "$@" >"$work/report" 2>/dev/null
+        if [ $? -ne 1 ]; then
+            echo "NOT FOUND  $mistake"
+            missed=$((missed + 1))
+            continue
+        fi
+        steps=$(sed -n 's/ of [0-9]* steps.*//p' "$work/report")
+        echo "found      $mistake ($(sed -n 's/^difference: //p' "$work/report" | head -n 1)${steps:+, $steps steps})"
+    done
+}
+
+# That Program stores and makes no AND is none: it programs what is 0xFF (T-02).
+try_mistakes <<'MISTAKES'
 checksum inverted at the end@s/return sum;/return ~sum;/
 L checked before the lock@s/is_protected(command) && !loader->unlocked)/is_protected(command) \&\& !loader->unlocked \&\& length_right(command, length))/
 range checked before the lock@s/    enum message refusal = standing.*/&\n    if (core[0] == PROGRAM \&\& length > 5 \&\& locate(loader, get32(core + 1), length - 5) == NULL) return send_message(reply, RANGE_INVALID);/
@@ -202,6 +207,17 @@ settings size cut to 16 bits@s/^    if (size != SETTINGS_SIZE)/    if ((uint16_t
 reply size cut to 16 bits@s/reply_size < REPLY_AREA/(uint16_t)reply_size < REPLY_AREA/
 fields size cut to a byte@s/fields_size != FIELDS_SIZE/(uint8_t)fields_size != FIELDS_SIZE/
 packet size cut to 16 bits@s/static uint8_t acknowledgement(const uint8_t \*packet, size_t size)/static uint8_t acknowledgement(const uint8_t *packet, uint16_t size)/
+MISTAKES
+
+# What a play on two boards must find by itself, with no model beside it (T-12).
+try_mistakes 1 pairs <<'MISTAKES'
+pairs: strike leaves MAIN@/fields\[ALERT\] == ALERT_RESET/{n;s/erase_everything(loader)/memset(loader->settings, 0xFF, SETTINGS_SIZE)/}
+pairs: strike leaves the settings@/fields\[ALERT\] == ALERT_RESET/{n;s/erase_everything(loader)/erase_main(loader)/}
+pairs: strike erases protected settings@/^static void erase_everything/,/^}/s/    if (!loader->fields\[SETTINGS_PROTECTED\])/    if (1)/
+pairs: only the first byte of a password compared@s/memcmp(core + 1, loader->fields + PASSWORD, PASSWORD_SIZE)/memcmp(core + 1, loader->fields + PASSWORD, 1)/
+pairs: password compared with the flash@s/memcmp(core + 1, loader->fields + PASSWORD,/memcmp(core + 1, loader->settings + BODIES_AT,/
+pairs: another version told@s/get32(loader->main_flash + pointer)/get32(loader->main_flash + (pointer + 8 <= loader->main_size ? pointer + 4 : pointer))/
+pairs: a locked board told apart by its flash@s/^    if (refusal == DONE)/    if (refusal == LOCKED \&\& loader->main_flash[0] % 2 == 0) loader->idle = 1;\n&/
 MISTAKES
 
 echo "$tried mistakes, $missed not found"

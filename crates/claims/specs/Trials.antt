@@ -33,23 +33,27 @@ windowOf byte = replicate (mspm0 .«window_size») byte
 unfoldable pub blankBoard : Images
 blankBoard = memory (replicate mainSize 0xFF) (replicate imageSize 0xFF) (windowOf 0xFF)
 
--- the settings of a blank image, but for the alert, the version pointer and the passwords, of which each is one byte all through; and where
--- the guard is 1 the first sector and the settings are protected
-abbrev pub chosen : ℕ → ℕ → ℕ → ℕ → Settings
-chosen alert guard pointer byte = record {
+-- the settings of a blank image, but for the alert, the bit of the first sector and that of the settings, the readout, the version pointer and the
+-- passwords, of which each is one byte all through
+abbrev pub chosenBy : ℕ → ℕ → ℕ → ℕ → ℕ → ℕ → Settings
+chosenBy alert sector guard readout pointer byte = record {
   shown = record {
     «reset_mode» = 1;
     alert = alert;
-    readout = 0xFFFF;
+    readout = readout;
     «settings_protected» = guard;
     «bcr_id» = 1;
     «bsl_id» = 1;
     «version_pointer» = pointer;
   };
-  protection = guard ∷ replicate 7 0;
+  protection = sector ∷ replicate 7 0;
   password = replicate 32 byte;
   «reset_password» = replicate 16 byte;
 }
+
+-- readout is off; where the guard is 1 the first sector and the settings are protected
+abbrev pub chosen : ℕ → ℕ → ℕ → ℕ → Settings
+chosen alert guard pointer byte = chosenBy alert guard guard 0xFFFF pointer byte
 
 -- a board whose settings were written; in MAIN there are four bytes 0x55, and then one byte all through, as in its window
 unfoldable pub writtenBoard : Settings → ℕ → Images

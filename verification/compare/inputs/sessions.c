@@ -1,10 +1,9 @@
 #include "sessions.h"
 
 #include "boards.h"
-#include "packets.h"
 #include "wire.h"
 
-static struct standing read_standing(uint32_t main_size, const uint8_t *record)
+struct standing read_standing(uint32_t main_size, const uint8_t *record)
 {
     struct standing standing = {.phase = record[PHASE_AT],
                                 .unlocked = record[LOCK_AT] == 1,

@@ -132,7 +132,18 @@
     P(REPLY_LARGEST, "", "reply of 1,729 bytes") P(REPLY_1728, "", "reply area of 1,728") \
     P(RATE_ID_1, "rate of id", "1") P(RATE_ID_2, "", "2") P(RATE_ID_3, "", "3") P(RATE_ID_4, "", "4") \
     P(RATE_ID_5, "", "5") P(RATE_ID_6, "", "6") P(RATE_ID_7, "", "7") P(RATE_ID_8, "", "8") P(RATE_ID_9, "", "9") \
-    P(RATE_ID_0, "", "0") P(RATE_ID_10, "", "10") P(RATE_ID_LARGE, "", "above 255")
+    P(RATE_ID_0, "", "0") P(RATE_ID_10, "", "10") P(RATE_ID_LARGE, "", "above 255") \
+    P(PAIR_CUT_BETWEEN, "two boards over restarts", "power cut between two calls") P(PAIR_FUSE, "", "start refused, fuse") \
+    P(PAIR_RUBBISH, "", "start refused, settings") P(PAIR_STRUCK, "", "started after a strike") \
+    P(PAIR_CUT_WITHIN, "", "power cut within a strike's erase") P(PAIR_CUT_AGAIN, "", "and once more") \
+    P(PAIR_AFTER_CUT, "", "started after that") P(PAIR_OLD_PASSWORD, "", "old password after a strike") \
+    P(PAIR_UNLOCKED, "", "both unlocked after a strike") P(PAIR_READ, "", "both read back after a strike") \
+    P(PAIR_WINDOW_READ, "", "both windows read back after a strike") \
+    P(PAIR_STRUCK_AGAIN, "", "both struck again") P(PAIR_ADVISED_STRUCK, "", "advised boards started after a strike") \
+    P(PAIR_TOLD_PASSWORD, "two boards told apart by", "a password in the session that is struck") \
+    P(PAIR_TOLD_SECTOR, "", "a protected sector beside open settings") \
+    P(PAIR_TOLD_WINDOW, "", "windows kept over a restart") \
+    P(PAIR_TOLD_SETTINGS_FIRST, "", "settings erased before MAIN")
 
 enum coverage_point {
 #define POINT(name, group, label) name,

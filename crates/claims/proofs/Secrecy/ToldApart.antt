@@ -28,9 +28,9 @@ use Rattle.claims.proofs.Secrecy.LockedCall.{verdict, bytesThen, leftTh
 
 module _ (part : Part) (sound : Sound part) where
   -- both boards stand locked, and alike
-  record Together (one other : Images) (standing : Standing) : Type 0 where
-    oneLocked : Locked part one standing
-    otherLocked : Locked part other standing
+  pub record Together (one other : Images) (standing : Standing) : Type 0 where
+    pub oneLocked : Locked part one standing
+    pub otherLocked : Locked part other standing
 
   module _ (one other : Images) (alike : AlikeBoards part one other) where
     -- ---- what both share
@@ -39,7 +39,7 @@ module _ (part : Part) (sound : Sound part) where
     alert-alike = ap (λ (shown : Shown). shown .alert) (alike .shown)
 
     -- the same packet is judged alike
-    verdict-alike : (standing : Standing) (sending : Sending) → verdict part other standing sending ≡ verdict part one standing sending
+    pub verdict-alike : (standing : Standing) (sending : Sending) → verdict part other standing sending ≡ verdict part one standing sending
     verdict-alike standing sending = ap (λ (alert : ℕ). judgedOf (part .«last_rate») standing alert (sending .wait) (sending .packet) false) (sym alert-alike)
 
     -- the version that is published stays the same, also where the alert has struck
@@ -78,19 +78,19 @@ module _ (part : Part) (sound : Sound part) where
 
     module _ (standing : Standing) (together : Together one other standing) (sending : Sending) (without : WithoutPassword part one other sending) where
       -- what both decide
-      abbrev decided : Judged
+      abbrev pub decided : Judged
       decided = verdict part one standing sending
 
       -- what both calls leave
-      one-is : called part (later part one standing) sending (sending .oneArea) ≡ leftThen part one standing sending (sending .oneArea) decided
+      pub one-is : called part (later part one standing) sending (sending .oneArea) ≡ leftThen part one standing sending (sending .oneArea) decided
       one-is = call-is part one standing (together .oneLocked) sending (sending .oneArea) (without .notOne) (without .oneRoom)
 
-      other-is : called part (later part other standing) sending (sending .otherArea) ≡ leftThen part other standing sending (sending .otherArea) decided
+      pub other-is : called part (later part other standing) sending (sending .otherArea) ≡ leftThen part other standing sending (sending .otherArea) decided
       other-is =
           call-is part other standing (together .otherLocked) sending (sending .otherArea) (without .notOther) (without .otherRoom)
           ∙ ap (leftThen part other standing sending (sending .otherArea)) (verdict-alike standing sending)
 
-      stay-together : Together one other (decided .standing)
+      pub stay-together : Together one other (decided .standing)
       stay-together = record {
         oneLocked = stays-locked part one standing (together .oneLocked) sending (sending .oneArea) (without .notOne) (without .oneRoom) sound;
         otherLocked =
@@ -98,7 +98,7 @@ module _ (part : Part) (sound : Sound part) where
             (stays-locked part other standing (together .otherLocked) sending (sending .otherArea) (without .notOther) (without .otherRoom) sound);
       }
 
-      call-alike : Alike part one other (called part (later part one standing) sending (sending .oneArea)) (called part (later part other standing) sending (sending .otherArea))
+      pub call-alike : Alike part one other (called part (later part one standing) sending (sending .oneArea)) (called part (later part other standing) sending (sending .otherArea))
       call-alike =
           rw (one-is, other-is)
           (left-alike standing sending decided (performs-nothing part one standing (together .oneLocked) sending) (stay-together .oneLocked .shut))

@@ -46,7 +46,7 @@ abbrev pub fromC : Running → RunningFromC
 fromC board = record { area = recordOf (board .session); memory = board .memory }
 
 -- what a call leaves, as C has it
-abbrev leftFromC : Left → Called
+abbrev pub leftFromC : Left → Called
 leftFromC left =
     record {
       answer = oneNumber 0 (left .answer .burn) (left .answer .size);
@@ -57,11 +57,11 @@ leftFromC left =
 
 -- ---- what a record area and a number say
 
-stands-are : (session : Session) → standsFromC (recordOf session) ≡ standingBytes (session .standing) ++ bytesOf 4 (session .«main_size»)
+pub stands-are : (session : Session) → standsFromC (recordOf session) ≡ standingBytes (session .standing) ++ bytesOf 4 (session .«main_size»)
 unfolding recordOf bytesOf
 stands-are session = refl
 
-locked-says-0 : (phase : Phase) → isUnlocked phase ≡ false → lockCode phase ≡ 0
+pub locked-says-0 : (phase : Phase) → isUnlocked phase ≡ false → lockCode phase ≡ 0
 unfolding pick
 locked-says-0 Detect h = refl
 locked-says-0 (Command true sleep) h = absurd (true≢false h)
@@ -85,23 +85,23 @@ stands-alike : (one other : Session) → one .standing ≡ other .standing → o
 stands-alike one other standing size =
     stands-are one ∙ ap₂ (λ (stands : Standing) (main : ℕ). standingBytes stands ++ bytesOf 4 main) standing size ∙ sym (stands-are other)
 
-replied-is : (left : Left) → left .answer .size ≤ 1729 → repliedFromC (leftFromC left) ≡ replied left
+pub replied-is : (left : Left) → left .answer .size ≤ 1729 → repliedFromC (leftFromC left) ≡ replied left
 replied-is left fits = ap (λ (size : ℕ). take size (left .area)) (number-says (left .answer .burn) (left .answer .size) fits .1)
 
 -- ---- a board of a sound part, and a call of it
 
 module _ (part : Part) (sound : Sound part) where
   -- a board whose record is valid, and whose settings can be held
-  record Fine (board : Running) : Type 0 where
-    valid : HasRecord part board
-    window : HasWindow part board
-    held : Held (board .session .settings)
+  pub record Fine (board : Running) : Type 0 where
+    pub valid : HasRecord part board
+    pub window : HasWindow part board
+    pub held : Held (board .session .settings)
 
   module _ (board : Running) (fine : Fine board) (sending : Sending) (reply : List ℕ) where
     abbrev after : Left
     after = called part board sending reply
 
-    fine-then : Fine (next after)
+    pub fine-then : Fine (next after)
     unfolding serveOf
     fine-then = record {
       valid = valid-stays-valid part (board .session) (board .memory) (sending .wait) (sending .packet) reply sound (fine .valid);
@@ -119,7 +119,7 @@ module _ (part : Part) (sound : Sound part) where
           (valid-is-served part (board .session) (board .memory) (sending .wait) (sending .packet) reply (fine .valid) (fine .window) room)
 
       -- a call from C does what the call on the session does
-      call-from-C : calledFromC part (fromC board) sending reply ≡ leftFromC after
+      pub call-from-C : calledFromC part (fromC board) sending reply ≡ leftFromC after
       unfolding callFromC storedAfter
       call-from-C =
           let held = valid-is-held part sound (board .session) _ _ (fine .valid) (fine .held) in

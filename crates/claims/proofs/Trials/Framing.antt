@@ -28,11 +28,11 @@ module _ (core : List ℕ) (some : 1 ≤ length core) (small : length core ≤ l
   sum = bytesOf 4 (checksumOf core)
 
   -- L, the core and the checksum stand where they belong
-  length-there : lengthIn (packetOf core) ≡ length core
+  pub length-there : lengthIn (packetOf core) ≡ length core
   unfolding bytesOf
   length-there = number-of-bytes 2 (length core) (omega arith)
 
-  core-from : drop 3 (packetOf core) ≡ core ++ sum
+  pub core-from : drop 3 (packetOf core) ≡ core ++ sum
   unfolding bytesOf
   core-from = refl
 

@@ -82,8 +82,10 @@ two-strict = (reset-are-alike 0 (omega arith), reset-differ 0 (omega arith))
 
 -- after two guesses all is as at the start, and after three every byte is 0xFF
 pub two-guesses-erase-nothing : (ran (started mspm0 oneStrict) twoGuesses .memory ≡ oneStrict) × (ran (started mspm0 otherStrict) twoGuesses .memory ≡ otherStrict)
-two-guesses-erase-nothing =
-    (two-guesses-keep 0 0x11 0x66 (omega arith) (omega arith) (λ e. omega arith), two-guesses-keep 0 0x22 0x77 (omega arith) (omega arith) (λ e. omega arith))
+two-guesses-erase-nothing = (
+  two-guesses-keep oneStrict _ (reset-is-good 0 0x11 0x66 (omega arith) (omega arith)) refl (λ e. omega arith),
+  two-guesses-keep otherStrict _ (reset-is-good 0 0x22 0x77 (omega arith) (omega arith)) refl (λ e. omega arith),
+)
 
 pub guesses-erase : (ran (started mspm0 oneStrict) threeGuesses .memory ≡ allFF oneStrict) × (ran (started mspm0 otherStrict) threeGuesses .memory ≡ allFF otherStrict)
 guesses-erase = (three-guesses-erase 0x11 0x66 (omega arith) (λ e. omega arith), three-guesses-erase 0x22 0x77 (omega arith) (λ e. omega arith))

@@ -16,12 +16,12 @@ use Rattle.claims.proofs.Secrecy.ToldApartFromC.{two-boards-are-alike-f
 use Rattle.claims.proofs.Trials.SomeBoards.{chosen-is-held, chosen-is-allowed, reset-are-alike}
 
 -- each byte that is lent is one: an image that was written is made of bytes
-reset-is-lent : (guard byte main : ℕ) (area : List ℕ) → guard ≤ 1 → byte < 256 → length area ≡ recordSize → Lent (resetBoard guard byte main) area
+pub reset-is-lent : (guard byte main : ℕ) (area : List ℕ) → guard ≤ 1 → byte < 256 → length area ≡ recordSize → Lent (resetBoard guard byte main) area
 unfolding writtenBoard
 reset-is-lent guard byte main area bit small size = record {
   bytes =
-      each-of-image (chosen alertReset guard 0 byte) (chosen-is-held alertReset guard 0 byte main (omega arith) bit (omega arith) small)
-      (chosen-is-allowed alertReset guard 0 byte main (omega arith) bit (omega arith) small);
+      each-of-image (chosen alertReset guard 0 byte) (chosen-is-held alertReset guard guard 0xFFFF 0 byte main (omega arith) bit bit (omega arith) (omega arith) small)
+      (chosen-is-allowed alertReset guard guard 0xFFFF 0 byte main (omega arith) bit bit (omega arith) (omega arith) small);
   size = size;
 }
 

@@ -21,7 +21,7 @@ use Rattle.flash.specs.Regions.{isMainSize}
 use Rattle.session.specs.Starting.{startRead, startOf}
 use Rattle.claims.specs.Held.{Held}
 use Rattle.claims.specs.TwoBoards.{Images, settingsOf, AlikeBoards}
-use Rattle.claims.specs.Trials.{mainSize, windowOf, blankBoard, chosen, writtenBoard, quietBoard, resetBoard, Differ}
+use Rattle.claims.specs.Trials.{mainSize, windowOf, blankBoard, chosenBy, chosen, writtenBoard, quietBoard, resetBoard, Differ}
 use Rattle.claims.proofs.Settings.Written.{image-reads}
 use Rattle.claims.proofs.Sessions.CallRules.{accepted-is-allowed}
 use Rattle.claims.proofs.Settings.SettingsRule.{blank-reads}
@@ -41,7 +41,7 @@ starts images settings good =
     rw (good .size, long, good .window, good .read)
 
 -- a window that is one byte all through
-window-sized : (byte : ℕ) → length (windowOf byte) ≡ mspm0 .«window_size»
+pub window-sized : (byte : ℕ) → length (windowOf byte) ≡ mspm0 .«window_size»
 unfolding windowOf
 window-sized byte = length-replicate {A = ℕ} (mspm0 .«window_size») byte
 
@@ -51,33 +51,34 @@ unfolding blankBoard
 blank-is-good = record { size = length-replicate {A = ℕ} mainSize 0xFF; window = window-sized 0xFF; read = blank-reads }
 
 -- a written board: the reader takes back what was written
-module _ (alert guard pointer byte main : ℕ) (known : alert ≤ 2) (bit : guard ≤ 1) (held : pointer < 256 ^ 4) (small : byte < 256) where
-  pub chosen-is-held : Held (chosen alert guard pointer byte)
-  chosen-is-held = record {
-    shown = record { readout = omega arith; bcr = omega arith; bsl = omega arith; pointer = held };
-    protection = record { size = refl; each = each-cons guard (replicate 7 0) (omega arith) (each-replicate 7 0 (omega arith)) };
-    password = record { size = refl; each = each-replicate 32 byte small };
-    reset = record { size = refl; each = each-replicate 16 byte small };
-  }
+module _ (alert sector guard readout pointer byte main : ℕ)
+    (known : alert ≤ 2) (sectorBit : sector ≤ 1) (bit : guard ≤ 1) (two : readout < 256 ^ 2) (four : pointer < 256 ^ 4) (small : byte < 256)
+  where
+    abbrev written : Settings
+    written = chosenBy alert sector guard readout pointer byte
 
-  pub chosen-is-allowed : isAllowed (chosen alert guard pointer byte .shown) ≡ true
-  unfolding isAllowed pick
-  chosen-is-allowed = rw (le-leb alert 2 known, le-leb guard 1 bit)
+    pub chosen-is-held : Held written
+    chosen-is-held = record {
+      shown = record { readout = two; bcr = omega arith; bsl = omega arith; pointer = four };
+      protection = record { size = refl; each = each-cons sector (replicate 7 0) (omega arith) (each-replicate 7 0 (omega arith)) };
+      password = record { size = refl; each = each-replicate 32 byte small };
+      reset = record { size = refl; each = each-replicate 16 byte small };
+    }
 
-  written-is-good : Good (writtenBoard (chosen alert guard pointer byte) main) (chosen alert guard pointer byte)
-  unfolding writtenBoard
-  written-is-good =
-      record {
-        size = omega (arith, length-replicate 2044 main);
-        window = window-sized main;
-        read = image-reads (chosen alert guard pointer byte) chosen-is-held chosen-is-allowed;
-      }
+    pub chosen-is-allowed : isAllowed (written .shown) ≡ true
+    unfolding isAllowed pick
+    chosen-is-allowed = rw (le-leb alert 2 known, le-leb guard 1 bit)
+
+    pub written-is-good : Good (writtenBoard written main) written
+    unfolding writtenBoard
+    written-is-good =
+        record { size = omega (arith, length-replicate 2044 main); window = window-sized main; read = image-reads written chosen-is-held chosen-is-allowed }
 
 pub quiet-is-good : (byte main : ℕ) → byte < 256 → Good (quietBoard byte main) (chosen 0 0 0xFFFFFFFF byte)
-quiet-is-good byte main small = written-is-good 0 0 0xFFFFFFFF byte main (omega arith) (omega arith) (omega arith) small
+quiet-is-good byte main small = written-is-good 0 0 0 0xFFFF 0xFFFFFFFF byte main (omega arith) (omega arith) (omega arith) (omega arith) (omega arith) small
 
 pub reset-is-good : (guard byte main : ℕ) → guard ≤ 1 → byte < 256 → Good (resetBoard guard byte main) (chosen alertReset guard 0 byte)
-reset-is-good guard byte main bit small = written-is-good alertReset guard 0 byte main (omega arith) bit (omega arith) small
+reset-is-good guard byte main bit small = written-is-good alertReset guard guard 0xFFFF 0 byte main (omega arith) bit bit (omega arith) (omega arith) small
 
 -- ---- two of them
 
@@ -87,7 +88,7 @@ module _ (one other : Images) (oneSettings otherSettings : Settings) (oneGood : 
       → ofOne (readOf form1 (one .settings)) ≡ ofOther (readOf form1 (other .settings))
   by-reading ofOne ofOther same = ap ofOne (oneGood .read) ∙ same ∙ sym (ap ofOther (otherGood .read))
 
-  are-alike : oneSettings .shown ≡ otherSettings .shown → oneSettings .protection ≡ otherSettings .protection
+  pub are-alike : oneSettings .shown ≡ otherSettings .shown → oneSettings .protection ≡ otherSettings .protection
       → versionAt (oneSettings .shown .«version_pointer») (one .main) ≡ versionAt (otherSettings .shown .«version_pointer») (other .main)
       → AlikeBoards mspm0 one other
   are-alike shown protection version = record {
@@ -139,7 +140,7 @@ blank-and-quiet-differ =
 -- ---- two whose alert resets
 
 -- where it is, the version is the four bytes there
-reset-version : (guard byte main : ℕ) → versionAt 0 (resetBoard guard byte main .main) ≡ 0x55555555
+pub reset-version : (guard byte main : ℕ) → versionAt 0 (resetBoard guard byte main .main) ≡ 0x55555555
 unfolding versionAt writtenBoard numberOf pick
 reset-version guard byte main = refl
 

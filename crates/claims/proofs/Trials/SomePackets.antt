@@ -69,7 +69,7 @@ module _ (byte : ℕ) (small : byte < 256) where
   unfolding judgedOf heardAfter passTime commandIdles isIdleTooLong heardInCommand stirred pick
   tried-awake wrong alert right = rw (never-empty (unlock ∷ replicate 32 byte), unlock-is-fine byte small, unlock-is-read byte)
 
-  tried-asleep : (wrong alert : ℕ) (right : Bool) → judgedOf (mspm0 .«last_rate») (stood mostSleep wrong) alert 2000 (unlocks byte .packet) right ≡ tried (stood 0 wrong) alert right
+  pub tried-asleep : (wrong alert : ℕ) (right : Bool) → judgedOf (mspm0 .«last_rate») (stood mostSleep wrong) alert 2000 (unlocks byte .packet) right ≡ tried (stood 0 wrong) alert right
   unfolding judgedOf heardAfter passTime commandIdles isIdleTooLong heardInCommand stirred pick
   tried-asleep wrong alert right = rw (never-empty (unlock ∷ replicate 32 byte), unlock-is-fine byte small, unlock-is-read byte)
 

@@ -39,7 +39,7 @@ use Rattle.octets.specs.Alike.{areSame}
 use Rattle.session.specs.Calling.{followed, serveOf}
 use Rattle.session.proofs.RecordLaws.{record-by-clauses}
 use Rattle.claims.specs.TwoBoards.{Images, Running, settingsOf, started, Carries, Sending, called, next, replied, isStruck}
-use Rattle.claims.specs.Trials.{sectorSize, mainSize, chosen, resetBoard, strictBoard, guardedBoard, secondFF, allFF, connects, unlocks, twoGuesses, threeGuesses, ran}
+use Rattle.claims.specs.Trials.{sectorSize, mainSize, strictBoard, guardedBoard, secondFF, allFF, connects, unlocks, twoGuesses, threeGuesses, ran}
 use Rattle.claims.proofs.Sessions.CallRules.{valid-is-served, started-is-valid}
 use Rattle.claims.proofs.Secrecy.LockedBoard.{imageThen, alertOf, memoryThen, sessionThen, later, Locked, started-is-later, started-is-locked}
 use Rattle.claims.proofs.Secrecy.LockedCall.{verdict, call-is, stays-locked}
@@ -58,7 +58,7 @@ room byte = omega (arith, length-replicate replyLimit byte)
 module _ (images : Images) (settings : Settings) (good : Good images settings) where
   -- ---- packets without its password
 
-  not-carried : (packet core : List ℕ) → coreIn packet ≡ core → (core ≡ unlock ∷ settings .password → ⊥) → Carries mspm0 packet (settingsOf images .password) → ⊥
+  pub not-carried : (packet core : List ℕ) → coreIn packet ≡ core → (core ≡ unlock ∷ settings .password → ⊥) → Carries mspm0 packet (settingsOf images .password) → ⊥
   not-carried packet core there other carries =
       other (sym there ∙ carries .core ∙ ap (λ (told : ReadTold). unlock ∷ told .settings .password) (good .read))
 
@@ -98,22 +98,31 @@ module _ (images : Images) (settings : Settings) (good : Good images settings) w
   pub connected : Stands images (ran (started mspm0 images) (connects ∷ [])) (stood 0 0)
   connected = stands-next _ _ stands-at-start connects connect-is-strange (room 0) _ (connect-connects (alertOf images) false)
 
-  -- ---- an Unlock, once connected
+  -- ---- an Unlock
 
   module _ (byte : ℕ) (small : byte < 256) where
-    -- it is tried, by whether it has the password
+    -- of a session that stands locked and is awake when it comes: it is tried, by whether it has the password
+    pub unlock-is-tried-at : (board : Running) (standing : Standing) → Stands images board standing → (wrong : ℕ)
+        → ((alert : ℕ) (right : Bool) → judgedOf (mspm0 .«last_rate») standing alert 2000 (unlocks byte .packet) right ≡ tried (stood 0 wrong) alert right)
+        → (right : Bool) → areSame (settings .password) (replicate 32 byte) ≡ right
+        → called mspm0 board (unlocks byte) (unlocks byte .oneArea)
+        ≡ followed mspm0 (sessionThen images standing) (later mspm0 images standing .memory) (unlocks byte .packet) (unlocks byte .oneArea)
+        (tried (stood 0 wrong) (alertOf images) right)
+    unfolding serveOf
+    unlock-is-tried-at board standing stands wrong awake right compared =
+        let core = sym (unlock-is-password (mspm0 .«last_rate») (unlocks byte .packet) (unlock-is-fine byte small) (unlock-is-read byte)) ∙ unlock-core byte in
+        let bit = ap₂ areSame (ap (λ (told : ReadTold). told .settings .password) (good .read)) (ap (drop 1) core) ∙ compared in
+        ap (λ (board : Running). called mspm0 board (unlocks byte) (unlocks byte .oneArea)) (stands .so)
+        ∙ valid-is-served mspm0 (sessionThen images standing) _ 2000 (unlocks byte .packet) (unlocks byte .oneArea) (stands .locked .valid) (stands .locked .window) (room 0)
+        ∙ ap (followed mspm0 (sessionThen images standing) _ (unlocks byte .packet) (unlocks byte .oneArea))
+        (ap (judgedOf (mspm0 .«last_rate») standing (alertOf images) 2000 (unlocks byte .packet)) bit ∙ awake (alertOf images) right)
+
+    -- once connected
     pub unlock-is-tried : (right : Bool) → areSame (settings .password) (replicate 32 byte) ≡ right
         → called mspm0 (ran (started mspm0 images) (connects ∷ [])) (unlocks byte) (unlocks byte .oneArea)
         ≡ followed mspm0 (sessionThen images (stood 0 0)) (later mspm0 images (stood 0 0) .memory) (unlocks byte .packet) (unlocks byte .oneArea)
         (tried (stood 0 0) (alertOf images) right)
-    unfolding serveOf
-    unlock-is-tried right compared =
-        let core = sym (unlock-is-password (mspm0 .«last_rate») (unlocks byte .packet) (unlock-is-fine byte small) (unlock-is-read byte)) ∙ unlock-core byte in
-        let bit = ap₂ areSame (ap (λ (told : ReadTold). told .settings .password) (good .read)) (ap (drop 1) core) ∙ compared in
-        ap (λ (board : Running). called mspm0 board (unlocks byte) (unlocks byte .oneArea)) (connected .so)
-        ∙ valid-is-served mspm0 (sessionThen images (stood 0 0)) _ 2000 (unlocks byte .packet) (unlocks byte .oneArea) (connected .locked .valid) (connected .locked .window) (room 0)
-        ∙ ap (followed mspm0 (sessionThen images (stood 0 0)) _ (unlocks byte .packet) (unlocks byte .oneArea))
-        (ap (judgedOf (mspm0 .«last_rate») (stood 0 0) (alertOf images) 2000 (unlocks byte .packet)) bit ∙ tried-awake byte small 0 (alertOf images) right)
+    unlock-is-tried = unlock-is-tried-at _ (stood 0 0) connected 0 (tried-awake byte small 0)
 
 -- the message that an Unlock gets is the sixth byte of its reply
 module _ (session : Session) (before : Memory) (byte code : ℕ) (standing : Standing) where
@@ -139,16 +148,16 @@ no-bit zero value k = refl
 no-bit (suc count) value zero = refl
 no-bit (suc count) value (suc k) = no-bit count value k
 
-none-protected : (count sector : ℕ) → isProtected (replicate count 0) sector ≡ false
+pub none-protected : (count sector : ℕ) → isProtected (replicate count 0) sector ≡ false
 unfolding isProtected
 none-protected count sector = rw (no-bit count 0 (sector / 8), zero-div)
 
-all-erased : (count : ℕ) (image : List ℕ) → imageThen sectorSize true (replicate count 0) image ≡ replicate (length image) 0xFF
+pub all-erased : (count : ℕ) (image : List ℕ) → imageThen sectorSize true (replicate count 0) image ≡ replicate (length image) 0xFF
 unfolding imageThen pick
 all-erased count image = erase-all-of-open sectorSize (replicate count 0) image (omega arith) (λ place there. none-protected count (place / sectorSize))
 
 -- where the first of two sectors is protected, the second is erased
-second-erased : (main : List ℕ) → length main ≡ mainSize
+pub second-erased : (main : List ℕ) → length main ≡ mainSize
     → imageThen sectorSize true (1 ∷ replicate 7 0) main ≡ take sectorSize main ++ replicate sectorSize 0xFF
 unfolding imageThen mayChange isProtected pick
 second-erased main size =
@@ -161,59 +170,55 @@ second-erased main size =
     (erase-all-in-one-sector sectorSize (1 ∷ replicate 7 0) main sectorSize sectorSize (omega arith) (omega (arith, size)))
 
 -- and where the one sector is protected, all is kept
-all-kept : (image : List ℕ) → length image ≡ sectorSize → imageThen sectorSize true (1 ∷ []) image ≡ image
+pub all-kept : (image : List ℕ) → length image ≡ sectorSize → imageThen sectorSize true (1 ∷ []) image ≡ image
 unfolding imageThen isProtected pick
 all-kept image size =
     erase-all-of-protected sectorSize (1 ∷ []) image
     (λ place there. let first : place / sectorSize ≡ 0 = omega (arith, size) in ap (isProtected (1 ∷ [])) first)
 
-module _ (guard byte main : ℕ) (bit : guard ≤ 1) (small : byte < 256) (other : 0x33 ≡ byte → ⊥) where
-  abbrev struckBoard : Images
-  struckBoard = resetBoard guard byte main
+module _ (images : Images) (settings : Settings) (good : Good images settings)
+    (reset : settings .shown .alert ≡ alertReset) (other : 0x33 ≡ getD (settings .password) 0 0 → ⊥)
+  where
+    pub resets : alertOf images ≡ alertReset
+    resets = ap (λ (told : ReadTold). told .settings .shown .alert) (good .read) ∙ reset
 
-  good : Good struckBoard (chosen alertReset guard 0 byte)
-  good = reset-is-good guard byte main bit small
+    pub guessed-twice : Stands images (ran (started mspm0 images) twoGuesses) (stood mostSleep 2)
+    guessed-twice =
+        let first = guess images _ good _ _ (connected images _ good) 0x33 other _ (first-is-counted 0x33 (omega arith) (alertOf images)) in
+        guess images _ good _ _ first 0x33 other _ (second-is-counted 0x33 (omega arith) (alertOf images))
 
-  resets : alertOf struckBoard ≡ alertReset
-  resets = ap (λ (told : ReadTold). told .settings .shown .alert) (good .read)
+    pub guessed : Stands images (ran (started mspm0 images) threeGuesses) (stood mostSleep 3)
+    guessed = guess images _ good _ _ guessed-twice 0x33 other _ (rw resets (third-is-counted 0x33 (omega arith)))
 
-  guessed-twice : Stands struckBoard (ran (started mspm0 struckBoard) twoGuesses) (stood mostSleep 2)
-  guessed-twice =
-      let first = guess struckBoard _ good _ _ (connected struckBoard _ good) 0x33 other _ (first-is-counted 0x33 (omega arith) (alertOf struckBoard)) in
-      guess struckBoard _ good _ _ first 0x33 other _ (second-is-counted 0x33 (omega arith) (alertOf struckBoard))
+    pub struck-at-three : (isStruck (alertOf images) 2 ≡ false) × (isStruck (alertOf images) 3 ≡ true)
+    unfolding isStruck pick
+    struck-at-three = (rw resets, rw resets)
 
-  guessed : Stands struckBoard (ran (started mspm0 struckBoard) threeGuesses) (stood mostSleep 3)
-  guessed = guess struckBoard _ good _ _ guessed-twice 0x33 other _ (rw resets (third-is-counted 0x33 (omega arith)))
+    -- two change nothing
+    pub two-guesses-keep : ran (started mspm0 images) twoGuesses .memory ≡ images
+    unfolding imageThen pick
+    two-guesses-keep = ap (λ (board : Running). board .memory) (guessed-twice .so) ∙ ap (memoryThen mspm0 images) (struck-at-three .0)
 
-  struck-at-three : (isStruck (alertOf struckBoard) 2 ≡ false) × (isStruck (alertOf struckBoard) 3 ≡ true)
-  unfolding isStruck pick
-  struck-at-three = (rw resets, rw resets)
-
-  -- two change nothing
-  pub two-guesses-keep : ran (started mspm0 struckBoard) twoGuesses .memory ≡ struckBoard
-  unfolding imageThen pick
-  two-guesses-keep = ap (λ (board : Running). board .memory) (guessed-twice .so) ∙ ap (memoryThen mspm0 struckBoard) (struck-at-three .0)
-
-  -- the third one strikes; what the strike leaves follows from the bits
-  strike-leaves : ran (started mspm0 struckBoard) threeGuesses .memory
-      ≡ memory (imageThen sectorSize true (guard ∷ replicate 7 0) (struckBoard .main)) (imageThen sectorSize true (guard ∷ []) (struckBoard .settings)) (struckBoard .window)
-  strike-leaves =
-      ap (λ (board : Running). board .memory) (guessed .so)
-      ∙ ap (memoryThen mspm0 struckBoard) (struck-at-three .1)
-      ∙ ap (λ (told : ReadTold). memory (imageThen sectorSize true (told .settings .protection) (struckBoard .main))
-      (imageThen sectorSize true (settingsProtection (told .settings .shown)) (struckBoard .settings)) (struckBoard .window)) (good .read)
+    -- the third one strikes; what the strike leaves follows from the bits
+    pub strike-leaves : ran (started mspm0 images) threeGuesses .memory
+        ≡ memory (imageThen sectorSize true (settings .protection) (images .main)) (imageThen sectorSize true (settingsProtection (settings .shown)) (images .settings)) (images .window)
+    strike-leaves =
+        ap (λ (board : Running). board .memory) (guessed .so)
+        ∙ ap (memoryThen mspm0 images) (struck-at-three .1)
+        ∙ ap (λ (told : ReadTold). memory (imageThen sectorSize true (told .settings .protection) (images .main))
+        (imageThen sectorSize true (settingsProtection (told .settings .shown)) (images .settings)) (images .window)) (good .read)
 
 module _ (byte main : ℕ) (small : byte < 256) (other : 0x33 ≡ byte → ⊥) where
   -- where nothing is protected, all is erased
   pub three-guesses-erase : ran (started mspm0 (strictBoard byte main)) threeGuesses .memory ≡ allFF (strictBoard byte main)
   three-guesses-erase =
-      strike-leaves 0 byte main (omega arith) small other
+      strike-leaves (strictBoard byte main) _ (reset-is-good 0 byte main (omega arith) small) refl other
       ∙ ap₂ (λ (flash image : List ℕ). memory flash image (strictBoard byte main .window)) (all-erased 8 _) (all-erased 1 _)
 
   -- where the first sector and the settings are protected, the second sector is erased
   pub three-guesses-keep : ran (started mspm0 (guardedBoard byte main)) threeGuesses .memory ≡ secondFF (guardedBoard byte main)
   three-guesses-keep =
-      strike-leaves 1 byte main (omega arith) small other
+      strike-leaves (guardedBoard byte main) _ (reset-is-good 1 byte main (omega arith) small) refl other
       ∙ ap₂ (λ (flash image : List ℕ). memory flash image (guardedBoard byte main .window)) (second-erased (guardedBoard byte main .main) (reset-is-good 1 byte main (omega arith) small .size)) (all-kept _ settings-size)
     where
       settings-size : length (guardedBoard byte main .settings) ≡ sectorSize
