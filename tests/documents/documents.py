@@ -22,6 +22,7 @@ NAMES_IN_FILES = re.compile(rf"({NAMES})\s+(?:\(|in\s+)({FILE}(?:,\s+{FILE})*)")
 NAMES_OF_OWNER = re.compile(rf"({NAMES})\s+(?:of|in)\s+({NAME})")
 NAME_OF_OWNER = re.compile(r"`(\w+)::(\w+)`")
 PLACEHOLDER = re.compile(r"\b(CRATE|MODULE|FUNCTION|NAME)\b")
+MARKER = re.compile(r"(<{7}|={7}|>{7}|\|{7})( |$)")
 
 # How a file defines. What is declared with its type is unindented or public: what is local to a proof cannot be cited. The parts
 # of a record and the cases of a data type stand two spaces in, those of a struct or an enum four.
@@ -160,10 +161,17 @@ def not_listed(library, section):
             yield f"{PROMISES}: the wrong program {program.name} of {library.name} is not cited"
 
 
+def markers_in(document):
+    """The lines that a merge has left for somebody to choose between."""
+    for number, line in enumerate(document.read_text().splitlines(), 1):
+        if MARKER.match(line):
+            yield f"{document}:{number}: two versions stand here beside each other"
+
+
 def main():
     known = known_names()
     said = sections()
-    wrong = [fault for document in SIGNED for fault in faults_in(document, known)]
+    wrong = [fault for document in SIGNED for fault in (*faults_in(document, known), *markers_in(document))]
     wrong += [fault for library in libraries() for fault in not_listed(library, said.get(library.name, ""))]
     for line in wrong:
         print(line)
