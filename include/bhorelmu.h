@@ -8,8 +8,8 @@
 #include <stddef.h>
 #include <stdint.h>
 
-#define BHORELMU_VERSION "4.0.0"
-#define BHORELMU_VERSION_NUMBER 40000 /* 10,000 for each major version, 100 for each minor, 1 for each patch */
+#define BHORELMU_VERSION "4.1.0"
+#define BHORELMU_VERSION_NUMBER 40100 /* 10,000 for each major version, 100 for each minor, 1 for each patch */
 
 /*
  * The device side of one boot loader session, on numbers and byte areas. docs/RECORD.md tells the same at length, and
@@ -51,6 +51,7 @@ extern "C" {
 #define BHORELMU_RECORD_SIZE 94u
 #define BHORELMU_FIELDS_SIZE 140u
 #define BHORELMU_NAME_SIZE 64u
+#define BHORELMU_COUNTS_SIZE 8u
 
 /* Where the parts of a record stand. */
 #define BHORELMU_RECORD_PHASE 0u
@@ -77,6 +78,12 @@ extern "C" {
 #define BHORELMU_FIELD_PROTECTION 66u         /* 8 bytes, a bit a sector; bit 0 of the first is sector 0, and 1 keeps it */
 #define BHORELMU_FIELD_NAME 74u               /* 64 bytes; all 0xFF: none */
 #define BHORELMU_FIELD_FORM 138u              /* 2 bytes: the form of the image, 1 or 2 */
+
+/* Where the counts stand in an area of counts, 2 bytes each. */
+#define BHORELMU_COUNT_TABLE 0u
+#define BHORELMU_COUNT_FILLER 2u
+#define BHORELMU_COUNT_VALUES 4u
+#define BHORELMU_COUNT_CHECKSUM 6u
 
 /* The values of reset mode: whether Factory reset is obeyed. */
 enum bhorelmu_reset_mode { BHORELMU_RESET_OFF, BHORELMU_RESET_ON, BHORELMU_RESET_WITH_PASSWORD };
@@ -107,7 +114,7 @@ enum bhorelmu_refusal_number {
     BHORELMU_FILLER_DIFFERS = 7,
     BHORELMU_VALUE_NOT_ALLOWED = 8,
     BHORELMU_REPLY_AREA_TOO_SMALL = 9,
-    BHORELMU_RECORD_NOT_VALID = 10, /* also: a fields area of another size */
+    BHORELMU_RECORD_NOT_VALID = 10, /* also: a fields or counts area of another size */
     BHORELMU_WINDOW_SIZE_WRONG = 11,
     BHORELMU_NAME_NOT_EMPTY = 41    /* a name for which form 1 has no place */
 };
@@ -160,6 +167,17 @@ uint64_t bhorelmu_settings_to_form_2(uint8_t *image, size_t image_size);
  * Stack: 752 bytes on x86-64, 976 on thumbv6m.
  */
 uint64_t bhorelmu_settings_to_form_1(uint8_t *image, size_t image_size);
+
+/*
+ * Mends a settings image that the reader does not accept, where it lies, as one of form 1: bodies 1, 2, 4, 5 and 6 stay,
+ * table and filler are put right, the values of body 3 that are not allowed become those of a blank image, and the
+ * checksum is written. Stores how many bytes were changed, two bytes for each count. An image that the reader accepts stays
+ * as it is, with counts of 0. Refusals 3, then 5 for an image that is not accepted and begins with form 2 and count 7, then
+ * 10 for a counts area of another size. A bad byte in a kept body, a password's among them, cannot be seen, and the new
+ * checksum seals it: docs/DEPOT.md.
+ * Stack: 1888 bytes on x86-64, 1992 on thumbv6m.
+ */
+uint64_t bhorelmu_settings_mend(uint8_t *image, size_t image_size, uint8_t *counts, size_t counts_size);
 
 /* Bits a second of rate ids 1 to 9; 0 for any other id. Stack: 48 bytes on x86-64, 40 on thumbv6m. */
 uint32_t bhorelmu_rate(uint32_t id);

@@ -17,6 +17,7 @@ pub use moves::to_form_1;
 pub use moves::to_form_2;
 pub use presets::blank;
 pub use presets::none;
+pub use reader::accepts;
 pub use reader::read;
 pub use reader::read_settings;
 pub use writer::write;

@@ -1,0 +1,3 @@
+-- What the proofs share.
+-- MendLaws: what is mended is allowed, and can be written; and how many bytes can have changed.
+pub mod MendLaws

@@ -1,0 +1,17 @@
+-- `settings_mend::mending::changes` meets its contract: part by part.
+use borrow.Author.Needs.{needs}
+use Rattle.settings_mend.specs.Mending.{changesOf}
+use Rattle.settings_mend.proofs.mending.changes.Statement.{statement}
+use Rattle.settings_mend.proofs.mending.changes.Tie as tie
+
+pub changes-spec : {M : Type 1} → statement M
+unfolding changesOf
+changes-spec =
+    tie.close
+    (tie.spec
+    (λ c κs. search needs)
+    (λ c. search needs)
+    (λ c κs. search needs)
+    (λ c κs. search needs)
+    (λ c κs. search needs)
+    (λ c. rw (c .changed4 .ensures, c .before .changed3 .ensures, c .before .before .changed2 .ensures, c .before .before .before .changed .ensures)))
