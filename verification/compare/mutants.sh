@@ -50,7 +50,7 @@ message sent after 0x24@s/^        program(loader, core, length);/        return
 message sent after a 0x24 that is not blank@s/^        program(loader, core, length);/        if (program(loader, core, length) == FLASH_ERROR) return send_outcome(reply, FLASH_ERROR);/
 address and size added in 32 bits@/^static uint8_t \*locate/,/^}/s/    if (first < loader->main_size)$/    if (first >= loader->main_size \&\& (uint32_t)(first + count) <= loader->main_size) return loader->main_flash;\n&/
 settings one byte longer@s/count <= SETTINGS_SIZE - offset/count <= SETTINGS_SIZE + 1 - offset/
-alignment before range@/^static enum message program/,/^}/s/    if (place == NULL)/    if (place == NULL \&\& first % 8 == 0 \&\& count % 8 == 0)/
+alignment before range@/^static enum message program/,/^}/s/    if (place == NULL)/    if (place == NULL \&\& (in_window(first) || (first % 8 == 0 \&\& count % 8 == 0)))/
 alignment to 4@s/PROGRAM_UNIT = 8/PROGRAM_UNIT = 4/
 data size need not be aligned@s/first % PROGRAM_UNIT != 0 || count % PROGRAM_UNIT != 0/first % PROGRAM_UNIT != 0/
 words not looked at@s/if (!all_ones(place, count))/if (0)/

@@ -95,33 +95,28 @@ pub fn locate(
 ) -> Place
     ensures { λ r. ⌜ r ≡ placeOf part «main_size» (now (protection .entry)) «settings_protected» first count ⌝ }
 {
-    let sector_size = part.sector_size;
     if lies_within(MAIN_START, main_size, first, count) {
         return place_in(
             Region::Main,
-            sector_size,
+            part.sector_size,
             protection,
             MAIN_START,
             first,
             count,
         );
     }
-    let start = part.settings_start;
-    let size = part.settings_size;
-    if lies_within(start, size, first, count) {
+    if lies_within(part.settings_start, part.settings_size, first, count) {
         return place_in(
             Region::Settings,
-            sector_size,
+            part.sector_size,
             &[settings_protected],
-            start,
+            part.settings_start,
             first,
             count,
         );
     }
-    let window = part.window_start;
-    let window_size = part.window_size;
-    if lies_within(window, window_size, first, count) {
-        return place_in_window(window, first);
+    if lies_within(part.window_start, part.window_size, first, count) {
+        return place_in_window(part.window_start, first);
     }
     Place {
         region: Region::Outside,
