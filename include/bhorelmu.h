@@ -8,8 +8,8 @@
 #include <stddef.h>
 #include <stdint.h>
 
-#define BHORELMU_VERSION "3.0.1"
-#define BHORELMU_VERSION_NUMBER 30001 /* 10,000 for each major version, 100 for each minor, 1 for each patch */
+#define BHORELMU_VERSION "4.0.0"
+#define BHORELMU_VERSION_NUMBER 40000 /* 10,000 for each major version, 100 for each minor, 1 for each patch */
 
 /*
  * The device side of one boot loader session, on numbers and byte areas. docs/RECORD.md tells the same at length, and
@@ -49,7 +49,8 @@ extern "C" {
 #define BHORELMU_PACKET_LARGEST 1728u /* a longer one is not refused: in the command phase an error answers it */
 #define BHORELMU_REPLY_SIZE 1729u /* a reply area has at least so many bytes */
 #define BHORELMU_RECORD_SIZE 94u
-#define BHORELMU_FIELDS_SIZE 74u
+#define BHORELMU_FIELDS_SIZE 140u
+#define BHORELMU_NAME_SIZE 64u
 
 /* Where the parts of a record stand. */
 #define BHORELMU_RECORD_PHASE 0u
@@ -60,9 +61,9 @@ extern "C" {
 #define BHORELMU_RECORD_IDLE 8u       /* 4 bytes, milliseconds */
 #define BHORELMU_RECORD_TRIES 12u     /* 4 bytes: how many wrong passwords in all, at most 65,535 */
 #define BHORELMU_RECORD_MAIN_SIZE 16u /* 4 bytes */
-#define BHORELMU_RECORD_FIELDS 20u    /* 74 bytes: the settings as they were at start */
+#define BHORELMU_RECORD_FIELDS 20u    /* 74 bytes, the first of the fields: the settings as they were at start */
 
-/* Where the fields stand in an area of fields; in a record they follow BHORELMU_RECORD_FIELDS. */
+/* Where the fields stand in an area of fields; in a record all but the last two follow BHORELMU_RECORD_FIELDS. */
 #define BHORELMU_FIELD_PASSWORD 0u        /* 32 bytes */
 #define BHORELMU_FIELD_RESET_PASSWORD 32u /* 16 bytes */
 #define BHORELMU_FIELD_RESET_MODE 48u
@@ -74,6 +75,8 @@ extern "C" {
 #define BHORELMU_FIELD_BSL_ID 58u             /* 4 bytes */
 #define BHORELMU_FIELD_VERSION_POINTER 62u    /* 4 bytes */
 #define BHORELMU_FIELD_PROTECTION 66u         /* 8 bytes, a bit a sector; bit 0 of the first is sector 0, and 1 keeps it */
+#define BHORELMU_FIELD_NAME 74u               /* 64 bytes; all 0xFF: none */
+#define BHORELMU_FIELD_FORM 138u              /* 2 bytes: the form of the image, 1 or 2 */
 
 /* The values of reset mode: whether Factory reset is obeyed. */
 enum bhorelmu_reset_mode { BHORELMU_RESET_OFF, BHORELMU_RESET_ON, BHORELMU_RESET_WITH_PASSWORD };
@@ -105,13 +108,14 @@ enum bhorelmu_refusal_number {
     BHORELMU_VALUE_NOT_ALLOWED = 8,
     BHORELMU_REPLY_AREA_TOO_SMALL = 9,
     BHORELMU_RECORD_NOT_VALID = 10, /* also: a fields area of another size */
-    BHORELMU_WINDOW_SIZE_WRONG = 11
+    BHORELMU_WINDOW_SIZE_WRONG = 11,
+    BHORELMU_NAME_NOT_EMPTY = 41    /* a name for which form 1 has no place */
 };
 
 /*
  * Begins a session; any fuse but 0 is set. Of the window only the size is looked at. Refusals 1 to 3, then 11, then 4 to 8,
  * then 10 for a record area of another size.
- * Stack: 416 bytes on x86-64, 544 on thumbv6m.
+ * Stack: 352 bytes on x86-64, 448 on thumbv6m.
  */
 uint64_t bhorelmu_start(uint32_t fuse, const uint8_t *main_flash, size_t main_size, const uint8_t *settings,
                         size_t settings_size, const uint8_t *window, size_t window_size, uint8_t *record,
@@ -128,18 +132,34 @@ uint64_t bhorelmu_call(uint8_t *record, size_t record_size, uint8_t *main_flash,
                        size_t packet_size, uint8_t *reply, size_t reply_size);
 
 /*
- * Takes the 74 bytes of fields out of a settings image (its bytes 52 to 125), or those of the blank settings out of a
- * blank one.
+ * Takes the 140 bytes of fields out of a settings image of either form: the six bodies (bytes 52 to 125 of form 1, 60 to
+ * 133 of form 2), the name (134 to 197 of form 2; 0xFF of form 1) and the form; or those of the blank settings out of a
+ * blank one, which counts as form 1.
  * Refusals 3 to 8, then 10 for a fields area of another size.
- * Stack: 432 bytes on x86-64, 544 on thumbv6m.
+ * Stack: 560 bytes on x86-64, 608 on thumbv6m.
  */
 uint64_t bhorelmu_settings_read(const uint8_t *image, size_t image_size, uint8_t *fields, size_t fields_size);
 
 /*
- * Makes a settings image around 74 bytes of fields. Refusals 3, then 10 for a fields area of another size, then 8.
- * Stack: 304 bytes on x86-64, 352 on thumbv6m.
+ * Makes a settings image around 140 bytes of fields, in the form that they name. Refusals 3, then 10 for a fields area of
+ * another size, then 5 for a form that is neither 1 nor 2, then 8, then 41 for a name in form 1.
+ * Stack: 672 bytes on x86-64, 656 on thumbv6m.
  */
 uint64_t bhorelmu_settings_write(const uint8_t *fields, size_t fields_size, uint8_t *image, size_t image_size);
+
+/*
+ * Moves a settings image of form 1 to form 2, where it lies, with a name of 0xFF. A blank image stays as it is. Refusals 3
+ * to 8; 5 also for an image of form 2.
+ * Stack: 624 bytes on x86-64, 720 on thumbv6m.
+ */
+uint64_t bhorelmu_settings_to_form_2(uint8_t *image, size_t image_size);
+
+/*
+ * Moves a settings image of form 2 back to form 1, where it lies. A blank image stays as it is. Refusals 3 to 8, then 41 for
+ * a name that is not all 0xFF; 5 also for an image of form 1.
+ * Stack: 816 bytes on x86-64, 720 on thumbv6m.
+ */
+uint64_t bhorelmu_settings_to_form_1(uint8_t *image, size_t image_size);
 
 /* Bits a second of rate ids 1 to 9; 0 for any other id. Stack: 48 bytes on x86-64, 40 on thumbv6m. */
 uint32_t bhorelmu_rate(uint32_t id);
@@ -164,7 +184,7 @@ static inline uint32_t bhorelmu_length(uint64_t answer)
     return (uint32_t)answer;
 }
 
-/* The entry of the settings image that goes with refusal 6 (start and the settings reader). */
+/* The entry of the settings image that goes with refusal 6 (start, the settings reader and both moves). */
 static inline uint32_t bhorelmu_entry(uint64_t answer)
 {
     return (uint32_t)answer;

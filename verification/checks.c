@@ -1,5 +1,5 @@
 /* Checks of the C boundary: each refusal and their order, each byte of a record, sizes one off, what stays untouched,
-   protected places, the total of wrong passwords, and the window. */
+   protected places, the total of wrong passwords, the window, and both forms of a settings image. */
 
 #include "bhorelmu.h"
 
@@ -7,7 +7,7 @@
 #include <stdio.h>
 #include <string.h>
 
-enum { MAIN_SIZE = 4096, SLACK = 16, FIELDS_AT = 52 };
+enum { MAIN_SIZE = 4096, SLACK = 16, FIELDS_AT = 52, FIELDS_AT_2 = 60, KEPT_SIZE = 74 };
 
 struct areas {
     uint8_t main_flash[MAIN_SIZE];
@@ -108,15 +108,38 @@ static uint32_t checksum(const uint8_t *bytes, size_t count)
     return sum;
 }
 
-/* One byte of a written image changed, and its checksum put right. */
+static void sign_image(struct areas *areas)
+{
+    uint32_t sum = checksum(areas->settings, 1020);
+    for (int i = 0; i < 4; i++)
+        areas->settings[1020 + i] = (uint8_t)(sum >> 8 * i);
+}
+
+/* One byte of a written image changed, and its checksum put right: in form 1, and in form 2 with a name. */
 static struct areas board_with_byte(size_t place, uint8_t value)
 {
     struct areas areas = blank_board();
     write_image(&areas);
     areas.settings[place] = value;
-    uint32_t sum = checksum(areas.settings, 1020);
-    for (int i = 0; i < 4; i++)
-        areas.settings[1020 + i] = (uint8_t)(sum >> 8 * i);
+    sign_image(&areas);
+    return areas;
+}
+
+static struct areas named_board(void)
+{
+    struct areas areas = blank_board();
+    write_image(&areas);
+    memset(areas.fields + BHORELMU_FIELD_NAME, 'A', BHORELMU_NAME_SIZE);
+    areas.fields[BHORELMU_FIELD_FORM] = 2;
+    check("a name is written", 0, bhorelmu_settings_write(areas.fields, BHORELMU_FIELDS_SIZE, areas.settings, 1024));
+    return areas;
+}
+
+static struct areas named_board_with_byte(size_t place, uint8_t value)
+{
+    struct areas areas = named_board();
+    areas.settings[place] = value;
+    sign_image(&areas);
     return areas;
 }
 
@@ -152,10 +175,14 @@ static void check_images(void)
     struct areas areas = board_with_byte(200, 0xFF);
     areas.settings[1020] ^= 1;
     start_refused("checksum", BHORELMU_CHECKSUM_DIFFERS, 0, &areas, 0, wrong);
-    areas = board_with_byte(0, 2);
+    areas = board_with_byte(0, 3);
     start_refused("form", BHORELMU_FORM_UNKNOWN, 0, &areas, 0, wrong);
+    areas = board_with_byte(0, 2);
+    start_refused("form 2 with 6", BHORELMU_FORM_UNKNOWN, 0, &areas, 0, wrong);
     areas = board_with_byte(2, 5);
     start_refused("count", BHORELMU_FORM_UNKNOWN, 0, &areas, 0, wrong);
+    areas = board_with_byte(2, 7);
+    start_refused("form 1 with 7", BHORELMU_FORM_UNKNOWN, 0, &areas, 0, wrong);
     for (unsigned entry = 1; entry <= 6; entry++) {
         areas = board_with_byte(4 + 8 * (entry - 1) + 6, 1);
         start_refused("entry", BHORELMU_ENTRY_DIFFERS, entry, &areas, 0, wrong);
@@ -166,6 +193,26 @@ static void check_images(void)
     start_refused("reset mode", BHORELMU_VALUE_NOT_ALLOWED, 0, &areas, 0, wrong);
     areas = board_with_byte(FIELDS_AT + BHORELMU_FIELD_ZERO, 1);
     start_refused("the zero byte", BHORELMU_VALUE_NOT_ALLOWED, 0, &areas, 0, wrong);
+}
+
+static void check_named_images(void)
+{
+    struct sizes wrong = right_sizes;
+    wrong.record = 0;
+    struct areas areas = named_board_with_byte(0, 1);
+    start_refused("form 1 with 7", BHORELMU_FORM_UNKNOWN, 0, &areas, 0, wrong);
+    areas = named_board_with_byte(2, 6);
+    start_refused("form 2 with 6", BHORELMU_FORM_UNKNOWN, 0, &areas, 0, wrong);
+    for (unsigned entry = 1; entry <= 7; entry++) {
+        areas = named_board_with_byte(4 + 8 * (entry - 1) + 6, 1);
+        start_refused("entry of form 2", BHORELMU_ENTRY_DIFFERS, entry, &areas, 0, wrong);
+    }
+    areas = named_board_with_byte(198, 0);
+    start_refused("first filler byte of form 2", BHORELMU_FILLER_DIFFERS, 0, &areas, 0, wrong);
+    areas = named_board_with_byte(197, 0);
+    start_refused("last byte of the name", BHORELMU_RECORD_NOT_VALID, 0, &areas, 0, wrong);
+    areas = named_board_with_byte(FIELDS_AT_2 + BHORELMU_FIELD_ALERT, BHORELMU_ALERT_DISABLE + 1);
+    start_refused("alert of form 2", BHORELMU_VALUE_NOT_ALLOWED, 0, &areas, 0, wrong);
 }
 
 static void check_call_sizes(void)
@@ -242,18 +289,65 @@ static void check_fields(void)
     struct areas areas = blank_board();
     struct areas before = areas;
     check("the reader's 3", 3ULL << 56, bhorelmu_settings_read(areas.settings, 1023, areas.fields, 0));
-    check("fields short", 10ULL << 56, bhorelmu_settings_read(areas.settings, 1024, areas.fields, 73));
-    check("fields long", 10ULL << 56, bhorelmu_settings_read(areas.settings, 1024, areas.fields, 75));
+    check("fields short", 10ULL << 56, bhorelmu_settings_read(areas.settings, 1024, areas.fields, 139));
+    check("fields long", 10ULL << 56, bhorelmu_settings_read(areas.settings, 1024, areas.fields, 141));
     check("the writer's 3", 3ULL << 56, bhorelmu_settings_write(areas.fields, 0, areas.settings, 1025));
-    check("then 10", 10ULL << 56, bhorelmu_settings_write(areas.fields, 75, areas.settings, 1024));
-    check("then 8", 8ULL << 56, bhorelmu_settings_write(areas.fields, 74, areas.settings, 1024));
+    check("then 10", 10ULL << 56, bhorelmu_settings_write(areas.fields, 141, areas.settings, 1024));
+    check("then 5", 5ULL << 56, bhorelmu_settings_write(areas.fields, 140, areas.settings, 1024));
+    check("all is as it was", 0, (unsigned)memcmp(&before, &areas, sizeof before) != 0);
+    areas.fields[BHORELMU_FIELD_FORM] = 1;
+    areas.fields[BHORELMU_FIELD_FORM + 1] = 0;
+    before = areas;
+    check("then 8", 8ULL << 56, bhorelmu_settings_write(areas.fields, 140, areas.settings, 1024));
     check("all is as it was", 0, (unsigned)memcmp(&before, &areas, sizeof before) != 0);
     write_image(&areas);
+    check("blank has form 1", 1, areas.fields[BHORELMU_FIELD_FORM] | areas.fields[BHORELMU_FIELD_FORM + 1] << 8);
+    for (size_t i = 0; i < BHORELMU_NAME_SIZE; i++)
+        check("blank has no name", 0xFF, areas.fields[BHORELMU_FIELD_NAME + i]);
     struct areas again = areas;
     memset(again.fields, 0, sizeof again.fields);
-    check("read again", 0, bhorelmu_settings_read(again.settings, 1024, again.fields, 74));
-    check("the same fields", 0, (unsigned)memcmp(areas.fields, again.fields, 74) != 0);
-    check("as bytes 52 to 125", 0, (unsigned)memcmp(areas.fields, areas.settings + FIELDS_AT, 74) != 0);
+    check("read again", 0, bhorelmu_settings_read(again.settings, 1024, again.fields, 140));
+    check("the same fields", 0, (unsigned)memcmp(areas.fields, again.fields, 140) != 0);
+    check("as bytes 52 to 125", 0, (unsigned)memcmp(areas.fields, areas.settings + FIELDS_AT, KEPT_SIZE) != 0);
+    areas.fields[BHORELMU_FIELD_NAME + BHORELMU_NAME_SIZE - 1] = 0;
+    before = areas;
+    check("a name in form 1", 41ULL << 56, bhorelmu_settings_write(areas.fields, 140, areas.settings, 1024));
+    check("all is as it was", 0, (unsigned)memcmp(&before, &areas, sizeof before) != 0);
+}
+
+/* Both forms: where the fields stand in form 2, and the moves from one to the other. */
+static void check_forms(void)
+{
+    struct areas areas = named_board();
+    struct areas again = areas;
+    check("form and count", 0, (unsigned)memcmp("\2\0\7", areas.settings, 4) != 0);
+    check("as bytes 60 to 197", 0, (unsigned)memcmp(areas.fields, areas.settings + FIELDS_AT_2, BHORELMU_FIELD_FORM) != 0);
+    memset(again.fields, 0, sizeof again.fields);
+    check("read again", 0, bhorelmu_settings_read(again.settings, 1024, again.fields, 140));
+    check("the same fields", 0, (unsigned)memcmp(areas.fields, again.fields, 140) != 0);
+    again = areas;
+    check("a name does not move back", 41ULL << 56, bhorelmu_settings_to_form_1(areas.settings, 1024));
+    check("form 2 does not move forth", 5ULL << 56, bhorelmu_settings_to_form_2(areas.settings, 1024));
+    check("a move's 3", 3ULL << 56, bhorelmu_settings_to_form_2(areas.settings, 1025));
+    check("and the other's", 3ULL << 56, bhorelmu_settings_to_form_1(areas.settings, 1023));
+    check("all is as it was", 0, (unsigned)memcmp(&again, &areas, sizeof again) != 0);
+    areas = named_board_with_byte(4 + 8 * 6 + 6, 1);
+    check("a move's entry", 6ULL << 56 | 7, bhorelmu_settings_to_form_1(areas.settings, 1024));
+    areas = board_with_byte(FIELDS_AT + BHORELMU_FIELD_PASSWORD, 0x42);
+    again = areas;
+    check("form 1 does not move back", 5ULL << 56, bhorelmu_settings_to_form_1(areas.settings, 1024));
+    check("forth", 0, bhorelmu_settings_to_form_2(areas.settings, 1024));
+    check("the password 8 bytes on", 0x42, areas.settings[FIELDS_AT_2]);
+    check("start in form 2", 0, start(&areas, 0, right_sizes));
+    check("start in form 1", 0, start(&again, 0, right_sizes));
+    check("the same session", 0, (unsigned)memcmp(areas.record, again.record, sizeof areas.record) != 0);
+    check("back", 0, bhorelmu_settings_to_form_1(areas.settings, 1024));
+    check("the first image", 0, (unsigned)memcmp(&again, &areas, sizeof again) != 0);
+    areas = blank_board();
+    again = areas;
+    check("blank moves forth", 0, bhorelmu_settings_to_form_2(areas.settings, 1024));
+    check("blank moves back", 0, bhorelmu_settings_to_form_1(areas.settings, 1024));
+    check("to itself", 0, (unsigned)memcmp(&again, &areas, sizeof again) != 0);
 }
 
 /* The names of the fields and of their values, by what a board with such fields does. */
@@ -273,14 +367,14 @@ static void check_field_names(void)
     areas.fields[BHORELMU_FIELD_READOUT + 1] = BHORELMU_READOUT_ON >> 8;
     areas.fields[BHORELMU_FIELD_SETTINGS_PROTECTED] = 1;
     areas.fields[BHORELMU_FIELD_BSL_ID] = 7;
-    check("settings by name", 0, bhorelmu_settings_write(areas.fields, 74, areas.settings, 1024));
+    check("settings by name", 0, bhorelmu_settings_write(areas.fields, 140, areas.settings, 1024));
     check("start with them", 0, start(&areas, 0, right_sizes));
-    check("in the record", 0, (unsigned)memcmp(areas.record + BHORELMU_RECORD_FIELDS, areas.fields, 74) != 0);
+    check("in the record", 0, (unsigned)memcmp(areas.record + BHORELMU_RECORD_FIELDS, areas.fields, KEPT_SIZE) != 0);
     call(&areas, right_sizes, connect_packet, sizeof connect_packet);
     check("Info", 33, call(&areas, right_sizes, info_packet, sizeof info_packet));
     check("Info's last number is the BSL id", 7, areas.reply[25]);
     areas.fields[BHORELMU_FIELD_ZERO] = 1;
-    check("the zero byte", 8ULL << 56, bhorelmu_settings_write(areas.fields, 74, areas.settings, 1024));
+    check("the zero byte", 8ULL << 56, bhorelmu_settings_write(areas.fields, 140, areas.settings, 1024));
 }
 
 enum { CORE_MOST = 33, NO_MESSAGE = 0x100 };
@@ -324,7 +418,7 @@ static struct areas protected_board(void)
     write_image(&areas);
     areas.fields[BHORELMU_FIELD_SETTINGS_PROTECTED] = 1;
     areas.fields[BHORELMU_FIELD_PROTECTION] = 1 << 1;
-    check("protected settings", 0, bhorelmu_settings_write(areas.fields, 74, areas.settings, 1024));
+    check("protected settings", 0, bhorelmu_settings_write(areas.fields, 140, areas.settings, 1024));
     memset(areas.main_flash, 0x5A, sizeof areas.main_flash);
     check("start with them", 0, start(&areas, 0, right_sizes));
     unlock(&areas);
@@ -531,10 +625,12 @@ int main(void)
 {
     check_start();
     check_images();
+    check_named_images();
     check_call_sizes();
     check_record_bytes();
     check_layout();
     check_fields();
+    check_forms();
     check_field_names();
     check_refused_places();
     check_skipped_places();

@@ -4,7 +4,7 @@
 - Read from top to bottom, the first columns of its tables that are headed "the customer's words" are the demands whole, letter by
   letter and in their order: no sentence is left out, and none stands twice.
 - Every text in quotation marks that is said to be a demand's is a literal part of the demands. What a text is said to be of is the
-  last source named before it in its paragraph, table row, list item or comment: "demand 3", "the insurer", "01", "004" or another. Where none is
+  last source named before it in its paragraph, table row, list item or comment: "demand 3", "the insurer", "01", "004", "T-09" or another. Where none is
   named there, it is the one that the heading above names, or the first comment of a file of the crates; the statement quotes the
   demands. In a quotation ".." stands for words that are left out.
 - In docs/DECISIONS.md each decision has a number of its own; the statement names all that are marked for a signer, and none that is not
@@ -25,7 +25,7 @@ QUOTED = re.compile(r"^(?:\d\. )?> (.*)$", re.M)
 HEADED = "the customer's words"
 QUOTATION = re.compile(r'"([^"]+)"')
 DEMAND = r"[Dd]emands?\b|[Ii]nsurer\b|[Cc]ustomer's words\b"
-SOURCE = re.compile(rf"\b(?:{DEMAND}|(?:[Dd]ocument )?(?:01|004|000)\b(?! [0-9A-F]{{2}}\b))")
+SOURCE = re.compile(rf"\b(?:{DEMAND}|T-\d\d\b|(?:[Dd]ocument )?(?:01|004|000)\b(?! [0-9A-F]{{2}}\b))")
 MARKED = re.compile(r"^\| (D\d+)( \(S\))? \|", re.M)
 
 

@@ -38,7 +38,7 @@ ORDINARY = {
     # words of the language, and steps of a proof
     "requires", "if", "else", "loop", "where", "unfolding", "unfoldable", "cc", "omega", "rw",
     # the toolchain's command, functions of C and zlib, and a word of a script's text
-    "rt", "crc32", "memcmp", "memset", "raw",
+    "rt", "crc32", "memcmp", "memcpy", "memset", "raw",
 }
 
 

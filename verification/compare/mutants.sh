@@ -8,7 +8,8 @@ work=$(mktemp -d) || exit 2
 trap 'rm -rf "$work"' EXIT
 compile="$cc -w $comparison_headers -Iverification/model"
 names="-Dmodel_start=bhorelmu_start -Dmodel_call=bhorelmu_call -Dmodel_settings_read=bhorelmu_settings_read
-    -Dmodel_settings_write=bhorelmu_settings_write -Dmodel_rate=bhorelmu_rate"
+    -Dmodel_settings_write=bhorelmu_settings_write -Dmodel_settings_to_form_2=bhorelmu_settings_to_form_2
+    -Dmodel_settings_to_form_1=bhorelmu_settings_to_form_1 -Dmodel_rate=bhorelmu_rate"
 
 for source in $comparison_sources; do
     $compile -c "$source" -o "$work/$(basename "$source" .c).o" || exit 2
@@ -45,7 +46,7 @@ try_mistakes <<'MISTAKES'
 checksum inverted at the end@s/return sum;/return ~sum;/
 L checked before the lock@s/is_protected(command) && !loader->unlocked)/is_protected(command) \&\& !loader->unlocked \&\& length_right(command, length))/
 range checked before the lock@s/    enum message refusal = standing.*/&\n    if (core[0] == PROGRAM \&\& length > 5 \&\& locate(loader, get32(core + 1), length - 5) == NULL) return send_message(reply, RANGE_INVALID);/
-password compared with the flash@s/memcmp(core + 1, loader->fields + PASSWORD,/memcmp(core + 1, loader->settings + BODIES_AT,/
+password compared with the flash@s/memcmp(core + 1, loader->fields + PASSWORD,/memcmp(core + 1, loader->settings + form_1.bodies_at,/
 message sent after 0x24@s/^        program(loader, core, length);/        return send_outcome(reply, program(loader, core, length));/
 message sent after a 0x24 that is not blank@s/^        program(loader, core, length);/        if (program(loader, core, length) == FLASH_ERROR) return send_outcome(reply, FLASH_ERROR);/
 address and size added in 32 bits@/^static uint8_t \*locate/,/^}/s/    if (first < loader->main_size)$/    if (first >= loader->main_size \&\& (uint32_t)(first + count) <= loader->main_size) return loader->main_flash;\n&/
@@ -151,15 +152,47 @@ version at any pointer@s/pointer % 4 == 0 && //
 version not at size - 4@s/pointer <= loader->main_size - 4/pointer < loader->main_size - 4/
 version pointer added in 32 bits@s/    bool in_main = /    if (pointer == 0xFFFFFFFCu) pointer = 0;\n&/
 byte past the reply written@s/        return 1;$/        return (reply[1] = 0, 1);/
-blank image refused@s/    if (all_ones(image, SETTINGS_SIZE)) {/    if (0) {/
-form not looked at@s/get16(image) != FORM || //
+blank image refused@s/    if (all_ones(image, SETTINGS_SIZE))$/    if (0)/
+form not looked at@s/get16(image) == (\*taken)->number && //
+count not looked at@s/ && get16(image + 2) == (\*taken)->entry_count//
+form 1 with 7 entries taken@s/get16(image + 2) == (\*taken)->entry_count/(&|| get16(image + 2) == 7)/
+form 2 with 6 entries taken@s/get16(image + 2) == (\*taken)->entry_count/(&|| get16(image + 2) == 6)/
+form 2 not taken@s/{&form_1, &form_2, NULL};/{\&form_1, NULL};/
+form 1 not taken@s/{&form_1, &form_2, NULL};/{\&form_2, NULL};/
+seventh entry not looked at@/^static unsigned differing_entry/,/^}/s/entry < form->entry_count/entry < 6/
+form 2 read at form 1's places@/^static void read_fields/,/^}/s/form != NULL ? image + form->bodies_at/form != NULL ? image + form_1.bodies_at/
+form 2 started at form 1's places@s/form != NULL ? settings + form->bodies_at/form != NULL ? settings + form_1.bodies_at/
+filler of form 2 from 126@/^static const struct form form_2/,/^$/s/198,/126,/
+filler of form 2 looked at from 199@s/all_ones(image + (\*form)->filler_at, CHECKSUM_AT - (\*form)->filler_at)/all_ones(image + (*form)->filler_at + (*form == \&form_2), CHECKSUM_AT - (*form)->filler_at - (*form == \&form_2))/
+filler of form 1 looked at from 198@s/all_ones(image + (\*form)->filler_at, CHECKSUM_AT - (\*form)->filler_at)/all_ones(image + 198, CHECKSUM_AT - 198)/
+blank counts as form 2@s/form == &form_2 ? 2 : 1/form != \&form_1 ? 2 : 1/
+blank's name is zeros@s/memset(fields + NAME, 0xFF, NAME_SIZE)/memset(fields + NAME, form == NULL ? 0 : 0xFF, NAME_SIZE)/
+name of form 1 is zeros@s/memset(fields + NAME, 0xFF, NAME_SIZE)/memset(fields + NAME, form == \&form_1 ? 0 : 0xFF, NAME_SIZE)/
+name not read@s/^    if (form == &form_2)$/    if (0)/
+always form 1 written@s/write_image(number == 1 ? &form_1 : &form_2/write_image(\&form_1/
+name not written@s/form->filler_at - form->bodies_at); \/\*/KEPT_SIZE); \/*/
 entry's zero not looked at@s/i < ENTRY_FIELDS; i++, field += 2)$/i < ENTRY_FIELDS; i++, field += 2) if (i != 3)/;/^static void write_image/,/^}/s/ if (i != 3)//
 entries counted from 0@s/return entry + 1;/return entry;/
-last filler byte not looked at@s/all_ones(image + FILLER_AT, CHECKSUM_AT - FILLER_AT)/all_ones(image + FILLER_AT, CHECKSUM_AT - FILLER_AT - 1)/
+last filler byte not looked at@s/CHECKSUM_AT - (\*form)->filler_at)/CHECKSUM_AT - (*form)->filler_at - 1)/
 body 3's zero byte not looked at@s/ && fields\[ZERO\] == 0//
 alert 3 allowed@s/fields\[ALERT\] <= ALERT_DISABLE/fields[ALERT] <= ALERT_DISABLE + 1/
-writer leaves old filler@s/    memset(image + FILLER_AT.*//
-writer refuses 8 before 10@s/^    if (fields_size != FIELDS_SIZE)$/    if (fields_size >= FIELDS_SIZE \&\& image_size == SETTINGS_SIZE \&\& !body_3_allowed(fields)) return refused(8);\n&/
+writer leaves old filler@s/    memset(image + form->filler_at.*//
+writer refuses 8 before 10@s/^    if (fields_size != FIELDS_SIZE)$/    if (fields_size >= KEPT_SIZE \&\& image_size == SETTINGS_SIZE \&\& !body_3_allowed(fields)) return refused(8);\n&/
+writer refuses 8 before 5@s/^    if (number != 1 && number != 2)$/    if (!body_3_allowed(fields)) return refused(8);\n&/
+writer refuses 41 before 8@/^uint64_t model_settings_write/,/^}/s/^    if (!body_3_allowed(fields))$/    if (number == 1 \&\& !all_ones(fields + NAME, NAME_SIZE)) return refused(41);\n&/
+writer takes form 0@s/number != 1 && number != 2/number > 2/
+form in the fields cut to a byte@s/number = get16(fields + FORM)/number = fields[FORM]/
+writer drops a name in form 1@s/^    if (number == 1 && !all_ones(fields + NAME, NAME_SIZE))$/    if (0)/
+last byte of a name not looked at@s/all_ones(fields + NAME, NAME_SIZE)/all_ones(fields + NAME, NAME_SIZE - 1)/
+name refused in form 2@s/if (number == 1 && !all_ones/if (!all_ones/
+move drops a name@/^uint64_t model_settings_to_form_1/,/^}/s/^    if (!all_ones(fields + NAME, NAME_SIZE))$/    if (0)/
+move forth with a name of zeros@/^uint64_t model_settings_to_form_2/,/^}/s/^    write_image/    memset(fields + NAME, 0, NAME_SIZE);\n&/
+move rewrites a blank image@/^uint64_t model_settings_to_form_2/,/^}/s/answer != 0 || form == NULL/answer != 0/
+move back rewrites a blank image@/^uint64_t model_settings_to_form_1/,/^}/s/answer != 0 || form == NULL/answer != 0/
+refused move leaves a new table@/^uint64_t model_settings_to_form_1/,/^}/s/^        return refused(41);/        return (put16(image, 1), put16(image + 2, 6), refused(41));/
+move forth takes form 2@/^uint64_t model_settings_to_form_2/,/^}/s/{&form_1, NULL}/{\&form_1, \&form_2, NULL}/
+move back takes form 1@/^uint64_t model_settings_to_form_1/,/^}/s/{&form_2, NULL}/{\&form_2, \&form_1, NULL}/
+move keeps the old checksum@s/    put32(image + CHECKSUM_AT, checksum(image, CHECKSUM_AT));/    if (get16(image) == 2) &/
 record unlocked and asleep taken@s/if (unlocked && sleep > 0)/if (0)/
 record with idle 10,000 taken@s/get32(record + AT_IDLE) >= IDLE_LIMIT/get32(record + AT_IDLE) > IDLE_LIMIT/
 record with lock 2 taken@s/ || record\[AT_LOCK\] > 1)/ || record[AT_LOCK] > 2)/
@@ -215,8 +248,10 @@ pairs: strike leaves MAIN@/fields\[ALERT\] == ALERT_RESET/{n;s/erase_everything(
 pairs: strike leaves the settings@/fields\[ALERT\] == ALERT_RESET/{n;s/erase_everything(loader)/erase_main(loader)/}
 pairs: strike erases protected settings@/^static void erase_everything/,/^}/s/    if (!loader->fields\[SETTINGS_PROTECTED\])/    if (1)/
 pairs: only the first byte of a password compared@s/memcmp(core + 1, loader->fields + PASSWORD, PASSWORD_SIZE)/memcmp(core + 1, loader->fields + PASSWORD, 1)/
-pairs: password compared with the flash@s/memcmp(core + 1, loader->fields + PASSWORD,/memcmp(core + 1, loader->settings + BODIES_AT,/
+pairs: password compared with the flash@s/memcmp(core + 1, loader->fields + PASSWORD,/memcmp(core + 1, loader->settings + (get16(loader->settings) == 2 ? form_2.bodies_at : form_1.bodies_at),/
 pairs: another version told@s/get32(loader->main_flash + pointer)/get32(loader->main_flash + (pointer + 8 <= loader->main_size ? pointer + 4 : pointer))/
+pairs: a locked board told apart by its form@s/^    if (refusal == DONE)/    if (refusal == LOCKED \&\& get16(loader->settings) == 2) loader->idle = 1;\n&/
+pairs: a locked board told apart by its name@s/^    if (refusal == DONE)/    if (refusal == LOCKED \&\& get16(loader->settings) == 2 \&\& loader->settings[134] % 2 == 0) loader->idle = 1;\n&/
 pairs: a locked board told apart by its flash@s/^    if (refusal == DONE)/    if (refusal == LOCKED \&\& loader->main_flash[0] % 2 == 0) loader->idle = 1;\n&/
 MISTAKES
 

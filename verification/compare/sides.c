@@ -122,6 +122,12 @@ static void perform(struct side *side, const struct loader_functions *loader, co
         side->answer =
             loader->settings_write(area[AREA_FIELDS], step->data_size, area[AREA_SETTINGS], step->settings_size);
         break;
+    case CALL_TO_2:
+        side->answer = loader->settings_to_form_2(area[AREA_SETTINGS], step->settings_size);
+        break;
+    case CALL_TO_1:
+        side->answer = loader->settings_to_form_1(area[AREA_SETTINGS], step->settings_size);
+        break;
     case CALL_RATE:
         side->answer = loader->rate(step->number);
         break;

@@ -12,15 +12,29 @@ struct loader_functions {
                      const uint8_t *, size_t, uint8_t *, size_t);
     uint64_t (*settings_read)(const uint8_t *, size_t, uint8_t *, size_t);
     uint64_t (*settings_write)(const uint8_t *, size_t, uint8_t *, size_t);
+    uint64_t (*settings_to_form_2)(uint8_t *, size_t);
+    uint64_t (*settings_to_form_1)(uint8_t *, size_t);
     uint32_t (*rate)(uint32_t);
 };
 
 static const struct loader_functions product_functions = {
-    bhorelmu_start, bhorelmu_call, bhorelmu_settings_read, bhorelmu_settings_write, bhorelmu_rate,
+    bhorelmu_start,
+    bhorelmu_call,
+    bhorelmu_settings_read,
+    bhorelmu_settings_write,
+    bhorelmu_settings_to_form_2,
+    bhorelmu_settings_to_form_1,
+    bhorelmu_rate,
 };
 
 static const struct loader_functions model_functions = {
-    model_start, model_call, model_settings_read, model_settings_write, model_rate,
+    model_start,
+    model_call,
+    model_settings_read,
+    model_settings_write,
+    model_settings_to_form_2,
+    model_settings_to_form_1,
+    model_rate,
 };
 
 #endif

@@ -90,22 +90,39 @@ static uint32_t checksum(const uint8_t *bytes, size_t count)
 
 /* ---- Settings image ---- */
 
-enum { FORM = 1, ENTRY_COUNT = 6, ENTRY_FIELDS = 4 };
-enum { ENTRIES_AT = 4, BODIES_AT = 52, FILLER_AT = 126, CHECKSUM_AT = 1020 };
+enum { ENTRY_LARGEST = 7, ENTRY_FIELDS = 4, ENTRIES_AT = 4, CHECKSUM_AT = 1020 };
 
-static const uint16_t entries[ENTRY_COUNT][ENTRY_FIELDS] = {
-    /* kind, offset, length, zero */
-    {1, 52, 32, 0}, {2, 84, 16, 0}, {3, 100, 6, 0}, {4, 106, 8, 0}, {5, 114, 4, 0}, {6, 118, 8, 0}};
+/* Form 1, and form 2 with a name after the other bodies. */
+struct form {
+    uint16_t number, entry_count, bodies_at, filler_at;
+    uint16_t entries[ENTRY_LARGEST][ENTRY_FIELDS]; /* kind, offset, length, zero */
+};
 
-/* The bodies of an image, back to back, are its fields. Here is where each value stands among them. */
-enum { PASSWORD = 0, RESET_PASSWORD = 32, IDS = 54, VERSION_POINTER = 62, PROTECTION = 66, FIELDS_SIZE = 74 };
+static const struct form form_1 = {
+    1, 6, 52, 126, {{1, 52, 32, 0}, {2, 84, 16, 0}, {3, 100, 6, 0}, {4, 106, 8, 0}, {5, 114, 4, 0}, {6, 118, 8, 0}}};
+
+static const struct form form_2 = {2,
+                                   7,
+                                   60,
+                                   198,
+                                   {{1, 60, 32, 0},
+                                    {2, 92, 16, 0},
+                                    {3, 108, 6, 0},
+                                    {4, 114, 8, 0},
+                                    {5, 122, 4, 0},
+                                    {6, 126, 8, 0},
+                                    {7, 134, 64, 0}}};
+
+/* The fields: the first six bodies back to back, the name, the form. A record has the first KEPT_SIZE of them. */
+enum { PASSWORD = 0, RESET_PASSWORD = 32, IDS = 54, VERSION_POINTER = 62, PROTECTION = 66, KEPT_SIZE = 74 };
 enum { RESET_MODE = 48, ALERT = 49, READOUT = 50, SETTINGS_PROTECTED = 52, ZERO = 53 }; /* body 3 */
+enum { NAME = 74, NAME_SIZE = 64, FORM = 138, FIELDS_SIZE = 140 };
 
 enum { PASSWORD_SIZE = 32, RESET_PASSWORD_SIZE = 16, IDS_SIZE = 8, READOUT_ON = 0xAABB };
 enum { RESET_OFF, RESET_ON, RESET_WITH_PASSWORD };
 enum { ALERT_NOTHING, ALERT_RESET, ALERT_DISABLE };
 
-static const uint8_t blank_fields[FIELDS_SIZE] = {
+static const uint8_t blank_fields[KEPT_SIZE] = {
     0xFF, 0xFF, 0xFF, 0xFF, 0xFF, 0xFF, 0xFF, 0xFF, 0xFF, 0xFF, 0xFF, 0xFF, 0xFF, 0xFF, 0xFF, 0xFF, /* password */
     0xFF, 0xFF, 0xFF, 0xFF, 0xFF, 0xFF, 0xFF, 0xFF, 0xFF, 0xFF, 0xFF, 0xFF, 0xFF, 0xFF, 0xFF, 0xFF,
     0xFF, 0xFF, 0xFF, 0xFF, 0xFF, 0xFF, 0xFF, 0xFF, 0xFF, 0xFF, 0xFF, 0xFF, 0xFF, 0xFF, 0xFF, 0xFF, /* reset's */
@@ -125,27 +142,46 @@ static bool body_3_allowed(const uint8_t *fields)
            fields[SETTINGS_PROTECTED] <= 1 && fields[ZERO] == 0;
 }
 
+/* The form that an image says, of those that are taken; NULL where it says none of them. */
+static const struct form *form_in(const uint8_t *image, const struct form *const *taken)
+{
+    for (; *taken != NULL; taken++)
+        if (get16(image) == (*taken)->number && get16(image + 2) == (*taken)->entry_count)
+            return *taken;
+    return NULL;
+}
+
 /* Which entry is the first to differ, 1 being the first of all; 0 where none does. */
-static unsigned differing_entry(const uint8_t *image)
+static unsigned differing_entry(const struct form *form, const uint8_t *image)
 {
     const uint8_t *field = image + ENTRIES_AT;
-    for (unsigned entry = 0; entry < ENTRY_COUNT; entry++)
+    for (unsigned entry = 0; entry < form->entry_count; entry++)
         for (unsigned i = 0; i < ENTRY_FIELDS; i++, field += 2)
-            if (get16(field) != entries[entry][i])
+            if (get16(field) != form->entries[entry][i])
                 return entry + 1;
     return 0;
 }
 
-static void write_image(const uint8_t *fields, uint8_t *image)
+/* The fields of an image, or those of a blank one where there is no form. */
+static void read_fields(const struct form *form, const uint8_t *image, uint8_t *fields)
+{
+    memcpy(fields, form != NULL ? image + form->bodies_at : blank_fields, KEPT_SIZE);
+    memset(fields + NAME, 0xFF, NAME_SIZE);
+    if (form == &form_2)
+        memcpy(fields + NAME, image + form_2.bodies_at + KEPT_SIZE, NAME_SIZE);
+    put16(fields + FORM, form == &form_2 ? 2 : 1);
+}
+
+static void write_image(const struct form *form, const uint8_t *fields, uint8_t *image)
 {
     uint8_t *field = image + ENTRIES_AT;
-    put16(image, FORM);
-    put16(image + 2, ENTRY_COUNT);
-    for (unsigned entry = 0; entry < ENTRY_COUNT; entry++)
+    put16(image, form->number);
+    put16(image + 2, form->entry_count);
+    for (unsigned entry = 0; entry < form->entry_count; entry++)
         for (unsigned i = 0; i < ENTRY_FIELDS; i++, field += 2)
-            put16(field, entries[entry][i]);
-    memcpy(image + BODIES_AT, fields, FIELDS_SIZE);
-    memset(image + FILLER_AT, 0xFF, CHECKSUM_AT - FILLER_AT);
+            put16(field, form->entries[entry][i]);
+    memcpy(image + form->bodies_at, fields, form->filler_at - form->bodies_at); /* in form 2 the name too */
+    memset(image + form->filler_at, 0xFF, CHECKSUM_AT - form->filler_at);
     put32(image + CHECKSUM_AT, checksum(image, CHECKSUM_AT));
 }
 
@@ -163,26 +199,27 @@ static uint64_t refused(unsigned number)
     return (uint64_t)number << 56;
 }
 
-/* Refusals 3 to 8. Where the answer is 0, `fields` points at the settings' values. */
-static uint64_t judge_image(const uint8_t *image, size_t size, const uint8_t **fields)
+static const struct form *const both_forms[] = {&form_1, &form_2, NULL};
+
+/* Refusals 3 to 8, of an image in one of the forms that are taken. A blank one has none. */
+static uint64_t judge_image(const uint8_t *image, size_t size, const struct form *const *taken, const struct form **form)
 {
+    *form = NULL;
     if (size != SETTINGS_SIZE)
         return refused(3);
-    if (all_ones(image, SETTINGS_SIZE)) {
-        *fields = blank_fields;
+    if (all_ones(image, SETTINGS_SIZE))
         return 0;
-    }
     if (checksum(image, CHECKSUM_AT) != get32(image + CHECKSUM_AT))
         return refused(4);
-    if (get16(image) != FORM || get16(image + 2) != ENTRY_COUNT)
+    *form = form_in(image, taken);
+    if (*form == NULL)
         return refused(5);
-    unsigned entry = differing_entry(image);
+    unsigned entry = differing_entry(*form, image);
     if (entry != 0)
         return refused(6) | entry;
-    if (!all_ones(image + FILLER_AT, CHECKSUM_AT - FILLER_AT))
+    if (!all_ones(image + (*form)->filler_at, CHECKSUM_AT - (*form)->filler_at))
         return refused(7);
-    *fields = image + BODIES_AT;
-    return body_3_allowed(*fields) ? 0 : refused(8);
+    return body_3_allowed(image + (*form)->bodies_at) ? 0 : refused(8);
 }
 
 /* Refusal 10, apart from the sizes lent. A byte that no session gives is no record's either. */
@@ -636,7 +673,7 @@ uint64_t model_start(uint32_t fuse, const uint8_t *main_flash, size_t main_size,
                      size_t settings_size, const uint8_t *window, size_t window_size, uint8_t *record,
                      size_t record_size)
 {
-    const uint8_t *fields = NULL;
+    const struct form *form;
     (void)main_flash;
     (void)window;
     if (fuse != 0)
@@ -645,7 +682,7 @@ uint64_t model_start(uint32_t fuse, const uint8_t *main_flash, size_t main_size,
         return refused(2);
     if (settings_size == SETTINGS_SIZE && window_size != WINDOW_SIZE)
         return refused(11);
-    uint64_t answer = judge_image(settings, settings_size, &fields);
+    uint64_t answer = judge_image(settings, settings_size, both_forms, &form);
     if (answer != 0)
         return answer;
     if (record_size != RECORD_SIZE)
@@ -654,7 +691,7 @@ uint64_t model_start(uint32_t fuse, const uint8_t *main_flash, size_t main_size,
     record[AT_PHASE] = DETECT;
     record[AT_RATE_ID] = RATE_AT_START;
     put32(record + AT_MAIN_SIZE, (uint32_t)main_size);
-    memcpy(record + AT_FIELDS, fields, FIELDS_SIZE);
+    memcpy(record + AT_FIELDS, form != NULL ? settings + form->bodies_at : blank_fields, KEPT_SIZE);
     return 0;
 }
 
@@ -682,13 +719,13 @@ uint64_t model_call(uint8_t *record, size_t record_size, uint8_t *main_flash, si
 
 uint64_t model_settings_read(const uint8_t *image, size_t image_size, uint8_t *fields, size_t fields_size)
 {
-    const uint8_t *from = NULL;
-    uint64_t answer = judge_image(image, image_size, &from);
+    const struct form *form;
+    uint64_t answer = judge_image(image, image_size, both_forms, &form);
     if (answer != 0)
         return answer;
     if (fields_size != FIELDS_SIZE)
         return refused(10);
-    memcpy(fields, from, FIELDS_SIZE);
+    read_fields(form, image, fields);
     return 0;
 }
 
@@ -698,9 +735,42 @@ uint64_t model_settings_write(const uint8_t *fields, size_t fields_size, uint8_t
         return refused(3);
     if (fields_size != FIELDS_SIZE)
         return refused(10);
+    unsigned number = get16(fields + FORM);
+    if (number != 1 && number != 2)
+        return refused(5);
     if (!body_3_allowed(fields))
         return refused(8);
-    write_image(fields, image);
+    if (number == 1 && !all_ones(fields + NAME, NAME_SIZE))
+        return refused(41);
+    write_image(number == 1 ? &form_1 : &form_2, fields, image);
+    return 0;
+}
+
+uint64_t model_settings_to_form_2(uint8_t *image, size_t image_size)
+{
+    static const struct form *const taken[] = {&form_1, NULL};
+    const struct form *form;
+    uint8_t fields[FIELDS_SIZE];
+    uint64_t answer = judge_image(image, image_size, taken, &form);
+    if (answer != 0 || form == NULL)
+        return answer;
+    read_fields(form, image, fields);
+    write_image(&form_2, fields, image);
+    return 0;
+}
+
+uint64_t model_settings_to_form_1(uint8_t *image, size_t image_size)
+{
+    static const struct form *const taken[] = {&form_2, NULL};
+    const struct form *form;
+    uint8_t fields[FIELDS_SIZE];
+    uint64_t answer = judge_image(image, image_size, taken, &form);
+    if (answer != 0 || form == NULL)
+        return answer;
+    read_fields(form, image, fields);
+    if (!all_ones(fields + NAME, NAME_SIZE))
+        return refused(41);
+    write_image(&form_1, fields, image);
     return 0;
 }
 

@@ -18,6 +18,8 @@ uint64_t model_call(uint8_t *record, size_t record_size, uint8_t *main_flash, si
                     size_t packet_size, uint8_t *reply, size_t reply_size);
 uint64_t model_settings_read(const uint8_t *image, size_t image_size, uint8_t *fields, size_t fields_size);
 uint64_t model_settings_write(const uint8_t *fields, size_t fields_size, uint8_t *image, size_t image_size);
+uint64_t model_settings_to_form_2(uint8_t *image, size_t image_size);
+uint64_t model_settings_to_form_1(uint8_t *image, size_t image_size);
 uint32_t model_rate(uint32_t id);
 
 #endif

@@ -9,7 +9,7 @@ enum { RESET_PASSWORD_SIZE = 16, FRAME_SIZE = 7 };
 
 /* Where things stand in a record, and in fields. */
 enum { AT_PHASE, AT_LOCK, AT_WRONG, AT_RATE, AT_SLEEP, AT_TRIES = 12 };
-enum { RESET_AT = 32, MODE_AT = 48, ALERT_AT, READOUT_AT, VERSION_AT = 62, PROTECTION_AT = 66 };
+enum { RESET_AT = 32, MODE_AT = 48, ALERT_AT, READOUT_AT, VERSION_AT = 62, PROTECTION_AT = 66, NAME_AT = 74, FORM_AT = 138 };
 
 static void put32(uint8_t *to, uint32_t number)
 {
@@ -27,6 +27,8 @@ static void fill_fields(uint8_t *fields, enum preset preset)
     fields[READOUT_AT] = 0xBB;
     fields[READOUT_AT + 1] = 0xAA;
     put32(fields + VERSION_AT, 256);
+    memset(fields + NAME_AT, preset == FORM_2 ? 'A' : 0xFF, FORM_AT - NAME_AT);
+    fields[FORM_AT] = preset == FORM_2 ? 2 : 1;
     if (preset == HALF_PROTECTED)
         memset(fields + PROTECTION_AT, 0x55, 8);
     if (preset == ALL_PROTECTED)

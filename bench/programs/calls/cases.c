@@ -85,10 +85,14 @@ const struct bench_case bench_cases[] = {
 
     {"Start of a session", "blank", SETTINGS_SIZE, .function = START, .preset = BLANK},
     {"Start of a session", "written", SETTINGS_SIZE, .function = START},
+    {"Start of a session", "form 2", SETTINGS_SIZE, .function = START, .preset = FORM_2},
     {"Start of a session", "refused: 4", SETTINGS_SIZE, .function = START, .preset = DAMAGED_IMAGE, .answer = REFUSED(4)},
     {"Settings read", "blank", SETTINGS_SIZE, .function = SETTINGS_READ, .preset = BLANK},
     {"Settings read", "written", SETTINGS_SIZE, .function = SETTINGS_READ},
+    {"Settings read", "form 2", SETTINGS_SIZE, .function = SETTINGS_READ, .preset = FORM_2},
     {"Settings write", "", SETTINGS_SIZE, .function = SETTINGS_WRITE},
+    {"Settings write", "form 2", SETTINGS_SIZE, .function = SETTINGS_WRITE, .preset = FORM_2},
+    {"Settings to form 2 and back", "", SETTINGS_SIZE, .function = SETTINGS_MOVES},
     {"Rate of an id", "", .function = RATE, .answer = 115200},
 };
 

@@ -34,13 +34,19 @@ static uint64_t no_write(const uint8_t *fields, size_t fields_size, uint8_t *ima
     return 0;
 }
 
+static uint64_t no_move(uint8_t *image, size_t image_size)
+{
+    (void)image, (void)image_size;
+    return 0;
+}
+
 static uint32_t no_rate(uint32_t id)
 {
     (void)id;
     return 0;
 }
 
-static const struct loader_functions nothing = {no_start, no_call, no_read, no_write, no_rate};
+static const struct loader_functions nothing = {no_start, no_call, no_read, no_write, no_move, no_move, no_rate};
 
 const char *const side_names[SIDES] = {[OURS] = "ours", [GCC] = "gcc", [CLANG] = "clang", [NOTHING] = "nothing"};
 
@@ -91,6 +97,9 @@ static uint64_t call_once(struct side *side, uint8_t *record)
         return functions->settings_read(now->settings, SETTINGS_SIZE, now->fields, FIELDS_SIZE);
     case SETTINGS_WRITE:
         return functions->settings_write(now->fields, FIELDS_SIZE, now->settings, SETTINGS_SIZE);
+    case SETTINGS_MOVES: /* forth and back, so that each call finds the image of the first */
+        return functions->settings_to_form_2(now->settings, SETTINGS_SIZE) |
+               functions->settings_to_form_1(now->settings, SETTINGS_SIZE);
     default:
         return functions->rate(6);
     }

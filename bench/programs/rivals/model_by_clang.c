@@ -3,6 +3,8 @@
 #define model_call clang_call
 #define model_settings_read clang_settings_read
 #define model_settings_write clang_settings_write
+#define model_settings_to_form_2 clang_settings_to_form_2
+#define model_settings_to_form_1 clang_settings_to_form_1
 #define model_rate clang_rate
 #define model_functions names_by_clang
 

@@ -4,7 +4,7 @@ ghost use Rattle.parts.specs.Parts.{mspm0};
 ghost use Rattle.flash.specs.Memory.{memory};
 ghost use Rattle.c_records.specs.Stored.{stored};
 ghost use Rattle.c_records.specs.Boundary.{rateFromC, startFromC, called, callFromC};
-ghost use Rattle.c_records.specs.SettingsFromC.{readFromC, writeFromC};
+ghost use Rattle.c_records.specs.SettingsFromC.{readFromC, writeFromC, toOneFromC, toTwoFromC};
 use parts::Mspm0;
 
 // Starts a session, and stores its record. Any fuse but 0 is set.
@@ -60,6 +60,22 @@ pub extern "C" fn bhorelmu_settings_write(fields: &[u8], image: &mut [u8]) -> u6
     ensures { λ r. ⌜ stored r (now (image .exit)) ≡ writeFromC (now (fields .entry)) (now (image .entry)) ⌝ }
 {
     c_records::write_image(fields, image)
+}
+
+// Moves a settings image of form 1 to form 2, where it lies.
+#[no_mangle]
+pub extern "C" fn bhorelmu_settings_to_form_2(image: &mut [u8]) -> u64
+    ensures { λ r. ⌜ stored r (now (image .exit)) ≡ toTwoFromC (now (image .entry)) ⌝ }
+{
+    c_records::move_to_form_2(image)
+}
+
+// Moves a settings image of form 2 back to form 1, where its name is all 0xFF.
+#[no_mangle]
+pub extern "C" fn bhorelmu_settings_to_form_1(image: &mut [u8]) -> u64
+    ensures { λ r. ⌜ stored r (now (image .exit)) ≡ toOneFromC (now (image .entry)) ⌝ }
+{
+    c_records::move_to_form_1(image)
 }
 
 // The rate that has this id, in bits a second, or 0 where none has.

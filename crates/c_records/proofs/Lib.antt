@@ -3,3 +3,5 @@
 pub mod RecordLaws
 -- RecordAgain: of the session that an area says, the same bytes are made again.
 pub mod RecordAgain
+-- FieldsLaws: stored piece by piece, the pieces make the fields of a settings image.
+pub mod FieldsLaws

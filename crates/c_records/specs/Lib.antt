@@ -7,5 +7,7 @@ pub mod Stored
 pub mod Records
 -- Boundary: what each function leaves.
 pub mod Boundary
--- SettingsFromC: what the settings reader and the settings writer leave.
+-- FieldsArea: the contents of a settings image as bytes, and bytes as contents.
+pub mod FieldsArea
+-- SettingsFromC: what the settings reader, the writer and the moves leave.
 pub mod SettingsFromC

@@ -11,9 +11,8 @@ use Rattle.session_state.specs.declared.Phase.the-variants.{Detect, Command, St
 use Rattle.session_state.specs.declared.Standing.{Standing}
 use Rattle.settings.specs.Layout.{form1}
 use Rattle.settings.specs.Bodies.{bodiesOf}
-use Rattle.settings.specs.Fields.{fieldsRead}
+use Rattle.settings.specs.Fields.{fieldsRead, keptSize, zeroAt}
 use Rattle.session.specs.declared.Session.{Session}
-use Rattle.settings.specs.FieldsArea.{fieldsAreaSize, zeroAt}
 
 -- a record has 94 bytes: phase, lock, wrong count and rate id; then sleep, idle and the total, four bytes each, and there ends what a call can
 -- change; then the size of MAIN, four bytes, and the settings' fields
@@ -98,7 +97,7 @@ unfoldable pub sessionIn : List ℕ → Session
 sessionIn area = record {
   standing = standingIn area;
   «main_size» = numberAt mainSizeAt 4 area;
-  settings = fieldsRead form1 (part fieldsAt fieldsAreaSize area);
+  settings = fieldsRead form1 (part fieldsAt keptSize area);
 }
 
 -- ---- which bytes are a record's

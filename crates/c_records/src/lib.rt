@@ -2,6 +2,7 @@
 // calls stand in a crate for each part.
 mod decoding;
 mod encoding;
+mod fields;
 mod images;
 mod numbers;
 mod rates;
@@ -9,6 +10,8 @@ mod session_answers;
 mod sessions;
 mod settings_answers;
 
+pub use images::move_to_form_1;
+pub use images::move_to_form_2;
 pub use images::read_image;
 pub use images::write_image;
 pub use numbers::of_refusal;
@@ -28,6 +31,8 @@ pub(crate) const MAIN_SIZE_WRONG: u64 = 2 * REFUSAL_UNIT;
 
 pub const SETTINGS_SIZE_WRONG: u64 = 3 * REFUSAL_UNIT;
 
+pub(crate) const FORM_UNKNOWN: u64 = 5 * REFUSAL_UNIT;
+
 pub const VALUE_NOT_ALLOWED: u64 = 8 * REFUSAL_UNIT;
 
 pub(crate) const REPLY_AREA_TOO_SMALL: u64 = 9 * REFUSAL_UNIT;
@@ -35,6 +40,8 @@ pub(crate) const REPLY_AREA_TOO_SMALL: u64 = 9 * REFUSAL_UNIT;
 pub(crate) const RECORD_NOT_VALID: u64 = 10 * REFUSAL_UNIT;
 
 pub(crate) const WINDOW_SIZE_WRONG: u64 = 11 * REFUSAL_UNIT;
+
+pub const NAME_NOT_EMPTY: u64 = 41 * REFUSAL_UNIT;
 
 // A session record as bytes: phase, lock, wrong count and rate id, then sleep, idle and the total of wrong passwords, which is all that a call
 // can change, then the size of MAIN and the settings' fields.
@@ -52,3 +59,10 @@ pub(crate) const FIELDS_AT: usize = 20;
 
 // The zero byte of body 3.
 pub(crate) const ZERO_AT: usize = FIELDS_AT + settings::ZERO_AT;
+
+// The fields area beside a settings image: the fields of a record, then the name and the form's number.
+pub(crate) const FIELDS_AREA_SIZE: usize = FORM_AT + 2;
+
+pub(crate) const NAME_AT: usize = settings::FIELDS_SIZE;
+
+pub(crate) const FORM_AT: usize = NAME_AT + settings::NAME_SIZE;

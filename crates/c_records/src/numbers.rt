@@ -2,14 +2,13 @@
 ghost use mathlib.Core.Path.{_≡_};
 ghost use Rattle.settings.specs.Answers.{refusalNumbered};
 ghost use Rattle.c_records.specs.OneNumber.{refusalOf};
+use crate::FORM_UNKNOWN;
 use crate::REFUSAL_UNIT;
 use crate::SETTINGS_SIZE_WRONG;
 use crate::VALUE_NOT_ALLOWED;
 use settings::Refusal;
 
 const CHECKSUM_DIFFERS: u64 = 4 * REFUSAL_UNIT;
-
-const FORM_UNKNOWN: u64 = 5 * REFUSAL_UNIT;
 
 const ENTRY_DIFFERS: u64 = 6 * REFUSAL_UNIT;
 

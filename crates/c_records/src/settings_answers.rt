@@ -1,10 +1,12 @@
-// One number for what the settings reader and writer answer.
+// One number for what the settings reader, the writer and the moves answer.
 ghost use mathlib.Core.Path.{_≡_};
-ghost use Rattle.settings.specs.Answers.{readNumbered, writeNumber};
+ghost use Rattle.settings.specs.Answers.{readNumbered, writeNumber, moveNumbered};
 ghost use Rattle.c_records.specs.OneNumber.{refusal, refusalOf};
+use crate::NAME_NOT_EMPTY;
 use crate::SETTINGS_SIZE_WRONG;
 use crate::VALUE_NOT_ALLOWED;
 use crate::numbers;
+use settings::MoveAnswer;
 use settings::ReadAnswer;
 use settings::WriteAnswer;
 
@@ -26,5 +28,17 @@ pub(crate) fn of_write(answer: WriteAnswer) -> u64
         WriteAnswer::Written => 0,
         WriteAnswer::SizeWrong => SETTINGS_SIZE_WRONG,
         WriteAnswer::ValueNotAllowed => VALUE_NOT_ALLOWED,
+        WriteAnswer::NameNotEmpty => NAME_NOT_EMPTY,
+    }
+}
+
+// What a move answers.
+pub(crate) fn of_move(answer: MoveAnswer) -> u64
+    ensures { λ r. ⌜ r ≡ refusalOf (moveNumbered answer) ⌝ }
+{
+    match answer {
+        MoveAnswer::Moved => 0,
+        MoveAnswer::Refused(refusal) => numbers::of_refusal(refusal),
+        MoveAnswer::NameNotEmpty => NAME_NOT_EMPTY,
     }
 }

@@ -3,15 +3,21 @@
 pub mod Pairs
 -- Bodies: the bodies of some settings, read and made again.
 pub mod Bodies
+-- FieldsRule: the fields of some settings are read and made by one rule.
+pub mod FieldsRule
 -- Written: a written image, part by part.
 pub mod Written
 -- Accepted: an accepted image, part by part.
 pub mod Accepted
 -- SettingsRule: the settings image is read and written by one rule.
 pub mod SettingsRule
--- FieldsRule: the fields of some settings are read and made by one rule.
-pub mod FieldsRule
 -- HeldSettings: settings that are read of bytes can be held.
 pub mod HeldSettings
+-- MovesRule: from one form to the other, and back.
+pub mod MovesRule
+-- BothForms: boards start from both forms.
+pub mod BothForms
+-- AreaRule: the fields area of C is read and made by one rule.
+pub mod AreaRule
 -- SettingsRuleFromC: from C too, the settings image is read and written by one rule.
 pub mod SettingsRuleFromC

@@ -5,6 +5,7 @@ use mathlib.Core.List.{List}
 use lib.ListN.{length, getD}
 use Rattle.settings.specs.declared.Shown.{Shown}
 use Rattle.settings.specs.declared.Settings.{Settings}
+use Rattle.settings.specs.declared.Contents.{Contents}
 use Rattle.session.specs.declared.Session.{Session}
 use Rattle.c_records.specs.Records.{sleepOf}
 
@@ -24,6 +25,11 @@ pub record Held (settings : Settings) : Type 0 where
   pub protection : Bytes 8 (settings .protection)
   pub password : Bytes 32 (settings .password)
   pub reset : Bytes 16 (settings .«reset_password»)
+
+-- what an image holds: any form, the settings, and a name
+pub record HeldContents (contents : Contents) : Type 0 where
+  pub settings : Held (contents .settings)
+  pub name : Bytes 64 (contents .name)
 
 -- a session record; its sleep is there in the command phase alone
 pub record HeldSession (session : Session) : Type 0 where

@@ -8,7 +8,12 @@ use Rattle.parts.specs.Parts.{mspm0}
 use Rattle.checksum.specs.Checksum.{checksumOf}
 use Rattle.line.specs.Codes.{commandHeader, replyLimit, connect, unlock}
 use Rattle.settings.specs.declared.Settings.{Settings}
-use Rattle.settings.specs.Layout.{form1, imageSize}
+use Rattle.settings.specs.declared.Form.{Form}
+use Rattle.settings.specs.declared.Form.the-variants.{One, Two}
+use Rattle.settings.specs.Values.{noName}
+use Rattle.settings.specs.Layout.{imageSize}
+use Rattle.settings.specs.Bodies.{contentsOf}
+use Rattle.settings.specs.Reader.{readOf}
 use Rattle.settings.specs.Image.{imageOf}
 use Rattle.flash.specs.Memory.{memory}
 use Rattle.session_judge.specs.Unlocking.{alertReset}
@@ -57,7 +62,11 @@ chosen alert guard pointer byte = chosenBy alert guard guard 0xFFFF pointer byte
 
 -- a board whose settings were written; in MAIN there are four bytes 0x55, and then one byte all through, as in its window
 unfoldable pub writtenBoard : Settings → ℕ → Images
-writtenBoard settings byte = memory (replicate 4 0x55 ++ replicate 2044 byte) (imageOf form1 settings) (windowOf byte)
+writtenBoard settings byte = memory (replicate 4 0x55 ++ replicate 2044 byte) (imageOf (contentsOf One settings noName)) (windowOf byte)
+
+-- T-09: the same in form 2, with a name of one byte all through
+unfoldable pub namedBoard : Settings → ℕ → ℕ → Images
+namedBoard settings name byte = memory (replicate 4 0x55 ++ replicate 2044 byte) (imageOf (contentsOf Two settings (replicate 64 name))) (windowOf byte)
 
 -- the alert does nothing, and the version pointer is not good
 abbrev pub quietBoard : ℕ → ℕ → Images
@@ -73,6 +82,10 @@ strictBoard password main = resetBoard 0 password main
 abbrev pub guardedBoard : ℕ → ℕ → Images
 guardedBoard password main = resetBoard 1 password main
 
+-- a strict board with a name
+abbrev pub namedStrict : ℕ → ℕ → ℕ → Images
+namedStrict name password main = namedBoard (chosen alertReset 0 0 password) name main
+
 -- both passwords, both images and the windows differ
 pub record Differ (one other : Images) : Type 0 where
   pub password : settingsOf one .password ≡ settingsOf other .password → ⊥
@@ -80,6 +93,13 @@ pub record Differ (one other : Images) : Type 0 where
   pub main : one .main ≡ other .main → ⊥
   pub settings : one .settings ≡ other .settings → ⊥
   pub window : one .window ≡ other .window → ⊥
+
+-- the name and the form of a board's settings
+abbrev pub nameOf : Images → List ℕ
+nameOf images = readOf (images .settings) .contents .name
+
+abbrev pub formOf : Images → Form
+formOf images = readOf (images .settings) .contents .form
 
 -- the second sector is 0xFF; the first one, the settings and the window are as they were
 abbrev pub secondFF : Images → Images

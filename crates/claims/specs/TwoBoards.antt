@@ -13,7 +13,6 @@ use Rattle.line.specs.Packet.{coreIn}
 use Rattle.line.specs.Acknowledgement.{acknowledgement}
 use Rattle.session_state.specs.Phases.{mostWrong, isUnlocked}
 use Rattle.settings.specs.declared.Settings.{Settings}
-use Rattle.settings.specs.Layout.{form1}
 use Rattle.settings.specs.Reader.{readOf}
 use Rattle.flash.specs.Memory.{Memory}
 use Rattle.flash.specs.Protection.{mayChange}
@@ -38,7 +37,7 @@ pub record Running : Type 0 where
 
 -- the settings that a board takes at start
 abbrev pub settingsOf : Images → Settings
-settingsOf images = readOf form1 (images .settings) .settings
+settingsOf images = readOf (images .settings) .contents .settings
 
 abbrev pub started : Part → Images → Running
 started part images = record { session = startOf part false (images .main) (images .settings) (images .window) .session; memory = images }
@@ -51,7 +50,8 @@ pub record AlikeBoards (part : Part) (one other : Images) : Type 0 where
   pub otherStarts : startOf part false (other .main) (other .settings) (other .window) .answer .number ≡ 0
   -- "of equal flash size": that of MAIN; the settings flash of every board that starts has 1,024 bytes
   pub size : length (one .main) ≡ length (other .main)
-  -- "whose good settings agree except in the two passwords": as the reader gives them
+  -- "whose good settings agree except in the two passwords": as the reader gives them. T-09: "In demand 3 the name is a third secret." Nothing is
+  -- said of the names, nor of the forms: they may differ too
   pub shown : settingsOf one .shown ≡ settingsOf other .shown
   pub protection : settingsOf one .protection ≡ settingsOf other .protection
   -- "the four published version bytes": what Info tells is the same; where the pointer is not good, both tell 0

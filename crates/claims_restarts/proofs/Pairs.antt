@@ -14,7 +14,6 @@ use Rattle.session_state.specs.declared.Standing.{Standing}
 use Rattle.session_state.specs.Phases.{atStart}
 use Rattle.settings.specs.declared.Shown.{Shown}
 use Rattle.settings.specs.declared.Settings.{Settings}
-use Rattle.settings.specs.Layout.{form1}
 use Rattle.settings.specs.Answers.{Numbered, numbered}
 use Rattle.settings.specs.Reader.{readOf}
 use Rattle.flash.specs.Memory.{Memory, memory}
@@ -188,8 +187,8 @@ module _ (part : Part) (sound : Sound part) (one other : Images) where
       cut-leaves-twins kept =
           let then = leaves-twins kept in
           let cut = cut-twins part sound one other (later part a standing .memory) (later part b standing .memory) then erased in
-          let oneKept = ap (λ (image : List ℕ). readOf form1 image .settings .protection) (then .oneSettings ∙ sym (twins .oneSettings)) in
-          let otherKept = ap (λ (image : List ℕ). readOf form1 image .settings .protection) (then .otherSettings ∙ sym (twins .otherSettings)) in
+          let oneKept = ap (λ (image : List ℕ). readOf image .contents .settings .protection) (then .oneSettings ∙ sym (twins .oneSettings)) in
+          let otherKept = ap (λ (image : List ℕ). readOf image .contents .settings .protection) (then .otherSettings ∙ sym (twins .otherSettings)) in
           by-test strikes
           (λ y. rw y
           (subst (λ (bits : List ℕ). Twins part sound one other (cutInMain part bits erased (later part a standing .memory)) (cutInMain part (settingsOf b .protection) erased (later part b standing .memory))) oneKept

@@ -134,7 +134,7 @@ module _ (part : Part) (sound : Sound part) (size : ℕ) where
             window = started-has-window part fuse (images .main) (images .settings) (images .window) starts;
             held =
                 every-start part fuse (images .main) (images .settings) (images .window) (λ told. Held (told .session .settings))
-                (λ good lent read. read-is-held (images .settings) (sane .bytes) read) starts;
+                (λ good lent read. read-is-held (images .settings) (sane .bytes) read .settings) starts;
           };
           main = every-start part fuse (images .main) (images .settings) (images .window) (λ told. told .session .«main_size» ≡ size) (λ good lent read. sane .main) starts;
           bytes = sane .bytes;

@@ -10,7 +10,11 @@ use Rattle.parts.specs.Parts.{mspm0}
 use Rattle.line.specs.Codes.{program, readBack}
 use Rattle.session_state.specs.Phases.{isUnlocked}
 use Rattle.settings.specs.declared.Settings.{Settings}
-use Rattle.settings.specs.Layout.{form1, imageSize}
+use Rattle.settings.specs.declared.Contents.{Contents}
+use Rattle.settings.specs.declared.Form.the-variants.{One}
+use Rattle.settings.specs.Values.{noName}
+use Rattle.settings.specs.Layout.{imageSize}
+use Rattle.settings.specs.Bodies.{contentsOf}
 use Rattle.settings.specs.Image.{imageOf}
 use Rattle.settings.specs.Answers.{Numbered}
 use Rattle.flash.specs.Memory.{Memory, memory}
@@ -71,9 +75,12 @@ blanked main = memory main (replicate imageSize 0xFF) (zeros mspm0)
 abbrev pub readable : Settings
 readable = chosenBy 0 0 0 readoutOn 0xFFFFFFFF 0xFF
 
+abbrev pub readableContents : Contents
+readableContents = contentsOf One readable noName
+
 -- 0x20 Program, of the whole settings flash
 unfoldable pub programs : Sending
-programs = sends (program ∷ (bytesOf 4 (mspm0 .«settings_start») ++ imageOf form1 readable))
+programs = sends (program ∷ (bytesOf 4 (mspm0 .«settings_start») ++ imageOf readableContents))
 
 -- 0x29 Read back, of so many bytes from the first address of MAIN on
 abbrev pub shownCount : ℕ

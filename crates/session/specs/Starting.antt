@@ -9,8 +9,8 @@ use Rattle.parts.specs.declared.Part.{Part}
 use Rattle.session_state.specs.Phases.{atStart}
 use Rattle.settings.specs.declared.Settings.{Settings}
 use Rattle.settings.specs.Values.{noSettings}
-use Rattle.settings.specs.Layout.{form1, imageSize}
-use Rattle.settings.specs.Answers.{ReadTold, numbered}
+use Rattle.settings.specs.Layout.{imageSize}
+use Rattle.settings.specs.Answers.{SettingsTold, settingsOnly, numbered}
 use Rattle.settings.specs.Reader.{readOf}
 use Rattle.session.specs.declared.Session.{Session}
 use Rattle.flash.specs.Regions.{isMainSize}
@@ -28,8 +28,8 @@ noSession = sessionOf 0 noSettings
 abbrev pub startRefused : ℕ → ℕ → StartTold
 startRefused number entry = record { answer = numbered number entry; session = noSession }
 
--- 3 to 8, as the settings reader has them
-unfoldable pub startRead : ℕ → ReadTold → StartTold
+-- 3 to 8, as the settings reader has them; T-09: "Boards start from both forms.", and a session keeps neither form nor name
+unfoldable pub startRead : ℕ → SettingsTold → StartTold
 startRead mainSize told =
     pick (eqb (told .number) 0)
     (record { answer = numbered 0 0; session = sessionOf mainSize (told .settings) })
@@ -43,4 +43,4 @@ startOf part fuse main settings window =
     (pick (not (isMainSize part (length main))) (startRefused 2 0)
     (pick (not (eqb (length settings) imageSize)) (startRefused 3 0)
     (pick (not (eqb (length window) (part .«window_size»))) (startRefused 11 0)
-    (startRead (length main) (readOf form1 settings)))))
+    (startRead (length main) (settingsOnly (readOf settings))))))

@@ -1,7 +1,7 @@
 // Starting a session: the refusals of document 01 in their order, or the session.
 ghost use mathlib.Core.Path.{_≡_};
 ghost use Rattle.session_state.specs.Phases.{atStart};
-ghost use Rattle.settings.specs.Answers.{readTold};
+ghost use Rattle.settings.specs.Answers.{settingsTold};
 ghost use Rattle.session.specs.StartAnswers.{startNumbered, startTold};
 ghost use Rattle.session.specs.Starting.{sessionOf, startRead, startOf, startRefused};
 use crate::Session;
@@ -12,9 +12,9 @@ use session_state::Phase;
 use session_state::RATE_ID_AT_START;
 use session_state::Standing;
 use settings::ReadAnswer;
-use settings::Reading;
 use settings::Refusal;
 use settings::Settings;
+use settings::SettingsReading;
 
 // How a session stands at start.
 fn at_start() -> Standing
@@ -48,8 +48,8 @@ fn refused(answer: StartAnswer) -> Started
 }
 
 // The session of settings that were read, if they were.
-fn start_read(main_size: u32, reading: Reading) -> Started
-    ensures { λ r. ⌜ startTold r ≡ startRead «main_size» (readTold reading) ⌝ }
+fn start_read(main_size: u32, reading: SettingsReading) -> Started
+    ensures { λ r. ⌜ startTold r ≡ startRead «main_size» (settingsTold reading) ⌝ }
 {
     let answer = reading.answer;
     match answer {
@@ -78,5 +78,5 @@ pub fn start(part: Part, fuse: bool, main: &[u8], image: &[u8], window: &[u8]) -
     if window.len() != part.window_size as usize {
         return refused(StartAnswer::WindowSizeWrong);
     }
-    start_read(size as u32, settings::read(image))
+    start_read(size as u32, settings::read_settings(image))
 }

@@ -1,20 +1,25 @@
 -- Fields that were read: of the settings that they say, the same fields are made again.
 use mathlib.Core.Path.{_≡_, refl, sym, ap, ap₂, _∙_}
+use mathlib.Core.Bool.{true, false}
 use mathlib.Core.List.{List, [], _∷_, _++_}
 use Prim.Native.Nat.{ℕ, _+_, _≤_, _<_}
 use native.Mathlib.Omega.{arith}
-use borrow.Author.Tests.{eq-eqb}
+use borrow.Author.Tests.{eq-eqb, eqb-true, not-false}
 use lib.ListN.{length, getD, take, drop, replicate, length-append}
 use lib.Seq.{take-all, drop-at, getD-take, getD-drop, getD-append-add}
 use Rattle.octets.specs.Number.{numberOf, bytesOf, part, numberAt}
 use Rattle.octets.proofs.Numbers.{bytes-of-number}
 use Rattle.octets.proofs.Parts.{length-part, parts-join, part-of-part, each-part, each-append, each-replicate}
-use Rattle.octets.proofs.Searching.{pick-true}
-use Rattle.settings.specs.Values.{noSettings}
-use Rattle.settings.specs.Layout.{form1, offsetOf, sumOf}
-use Rattle.settings.specs.Table.{filler-from-126}
+use Rattle.octets.proofs.Searching.{pick-true, pick-both}
+use Rattle.settings.specs.declared.Form.{Form}
+use Rattle.settings.specs.Values.{isAllowed, noSettings}
+use Rattle.settings.specs.Layout.{form1, layoutOf, offsetOf, sumOf}
+use Rattle.settings.specs.declared.Form.the-variants.{One}
+use Rattle.settings.specs.Table.{bodiesAt, bodies-end}
 use Rattle.settings.specs.Bodies.{valuesOf, numbersOf, bodiesOf, shownIn, settingsIn}
 use Rattle.settings.specs.Fields.{fieldsSize, fieldsRead}
+use Rattle.settings.specs.Reader.{valueNotAllowed}
+use Rattle.settings.proofs.BodyLaws.{bodies-begin, fields-there, zero-there}
 
 -- the six bytes of body 3, from the values that are read of them
 values-again : (body : List ℕ) → length body ≡ 6 → ((k : ℕ) → getD body k 0 < 256) → getD body 5 0 ≡ 0
@@ -82,7 +87,7 @@ module _ (fields : List ℕ) where
   pub fields-said : length fields ≡ 74 → fieldsRead form1 fields ≡ settingsIn form1 (placed fields)
   unfolding fieldsRead placed
   fields-said n =
-      let size : length fields ≡ fieldsSize form1 = omega (arith, filler-from-126) in
+      let size : length fields ≡ fieldsSize form1 = omega (arith, bodies-end One) in
       pick-true _ noSettings (eq-eqb (length fields) (fieldsSize form1) size)
 
   pub made-after-read : length fields ≡ 74 → ((k : ℕ) → getD fields k 0 < 256) → getD fields 53 0 ≡ 0 → bodiesOf (fieldsRead form1 fields) ≡ fields
@@ -92,3 +97,19 @@ module _ (fields : List ℕ) where
       ∙ bodies-again (placed fields) (each-append (replicate 52 0) fields (each-replicate 52 0 (omega arith)) each)
       (omega (arith, length-append (replicate 52 0) fields)) (unused-at-53 ∙ zero)
       ∙ ap (take 74) from-52 ∙ take-all 74 fields (omega arith)
+
+-- an image of a form whose values and zero byte are allowed
+module _ (form : Form) (image : List ℕ) (size : length image ≡ 1024) (value : valueNotAllowed form image ≡ false) where
+  -- of what its six bodies say, they are made again
+  pub bodies-made-again : ((k : ℕ) → getD image k 0 < 256) → bodiesOf (settingsIn (layoutOf form) image) ≡ part (bodiesAt form) 74 image
+  unfolding valueNotAllowed
+  bodies-made-again each =
+      let fields = part (bodiesAt form) 74 image in
+      let zero : getD fields 53 0 ≡ 0 = zero-there image form ∙ eqb-true _ _ (pick-both _ _ (not-false _ value) .1) in
+      ap bodiesOf (sym (fields-there image form (omega arith)))
+      ∙ made-after-read fields (length-part (bodiesAt form) 74 image (omega (arith, bodies-begin form))) (each-part (bodiesAt form) 74 image each) zero
+
+  -- and what they say is allowed
+  pub read-is-allowed : isAllowed (settingsIn (layoutOf form) image .shown) ≡ true
+  unfolding settingsIn valueNotAllowed
+  read-is-allowed = pick-both _ _ (not-false _ value) .0

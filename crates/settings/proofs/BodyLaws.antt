@@ -1,7 +1,7 @@
 -- The bodies joined piece by piece, and found where an image has them.
-use mathlib.Core.Path.{_≡_, sym, ap, _∙_}
-use mathlib.Core.List.{List, _++_, append-assoc}
-use Prim.Native.Nat.{ℕ, _+_, _≤_}
+use mathlib.Core.Path.{_≡_, refl, sym, ap, _∙_}
+use mathlib.Core.List.{List, _++_, append-nil, append-assoc}
+use Prim.Native.Nat.{ℕ, _+_, _-_, _≤_}
 use native.Mathlib.Omega.{arith}
 use borrow.Author.Tests.{eq-eqb}
 use lib.ListN.{length, getD, drop, replicate, length-append, length-replicate}
@@ -12,9 +12,11 @@ use Rattle.octets.proofs.Searching.{pick-true}
 use Rattle.octets.proofs.StoreLaws.{sets-join, stored-whole}
 use Rattle.settings.specs.declared.Settings.{Settings}
 use Rattle.settings.specs.Values.{noSettings}
-use Rattle.settings.specs.Layout.{form1, offsetOf, sumOf}
-use Rattle.settings.specs.Table.{filler-from-126}
-use Rattle.settings.specs.Bodies.{valuesOf, numbersOf, bodiesOf, bodyIn, shownIn, settingsIn}
+use Rattle.settings.specs.declared.Form.{Form}
+use Rattle.settings.specs.declared.Form.the-variants.{One, Two}
+use Rattle.settings.specs.Layout.{form1, layoutOf, offsetOf, sumOf}
+use Rattle.settings.specs.Table.{bodiesAt, fillerAt, bodies-end}
+use Rattle.settings.specs.Bodies.{valuesOf, numbersOf, bodiesOf, nameBody, bodyIn, shownIn, settingsIn}
 use Rattle.settings.specs.Fields.{fieldsSize, fieldsRead}
 
 -- a body that is put into an array of its own size is all that the array has
@@ -45,23 +47,56 @@ module _ (s : Settings) (p : length (s .password) ≡ 32) (r : length (s .«rese
   unfolding bodiesOf bytesOf
   length-bodies = simp length-append (omega arith)
 
+-- where the bodies begin, in either form
+pub bodies-begin : (form : Form) → bodiesAt form ≤ 60
+bodies-begin One = omega arith
+bodies-begin Two = omega arith
+
+-- body 3 stands 48 bytes after the bodies' begin
+pub values-there : (form : Form) (image : List ℕ) → part (bodiesAt form + 48) 6 image ≡ bodyIn (layoutOf form) 3 image
+unfolding offsetOf sumOf
+values-there One image = refl
+values-there Two image = refl
+
+-- byte 53 of the six bodies is the last of body 3
+pub sixth : (fields : List ℕ) → getD fields 53 0 ≡ getD (part 48 6 fields) 5 0
+sixth fields = sym (getD-take 6 (drop 48 fields) 5 0 (omega arith) ∙ getD-drop 48 fields 5 0)
+
+-- the six bodies, and the name where the form has one
+pub length-all-bodies : (form : Form) (six name : List ℕ) → length six ≡ 74 → length name ≡ 64
+    → length (six ++ nameBody form name) ≡ fillerAt form - bodiesAt form
+length-all-bodies One six name b n = simp append-nil (omega arith)
+length-all-bodies Two six name b n = simp length-append (omega arith)
+
+-- the name, which stands after the others
+pub name-joined : (form : Form) (area six name : List ℕ) → length six ≡ 74
+    → sets (sets area (bodiesAt form) six) 134 (nameBody form name) ≡ sets area (bodiesAt form) (six ++ nameBody form name)
+name-joined One area six name b = rw (append-nil six)
+name-joined Two area six name b = sets-join area 60 134 six name (omega arith)
+
 -- ---- the bodies of an image, taken out of it
 
 module _ (image : List ℕ) where
-  -- what the bodies say by themselves, they say in the image
-  settings-there : settingsIn form1 (replicate 52 0 ++ part 52 74 image) ≡ settingsIn form1 image
-  unfolding settingsIn shownIn offsetOf sumOf
-  settings-there =
-      rw (← part-of-part 52 74 0 32 image (omega arith), ← part-of-part 52 74 32 16 image (omega arith), ← part-of-part 52 74 48 6 image (omega arith), ← part-of-part 52 74 54 8 image (omega arith), ← part-of-part 52 74 62 4 image (omega arith), ← part-of-part 52 74 66 8 image (omega arith))
+  within : (at first count : ℕ) → first + count ≤ 74 → part first count (part at 74 image) ≡ part (at + first) count image
+  within at first count h = part-of-part at 74 first count image h
 
-  pub fields-there : 126 ≤ length image → fieldsRead form1 (part 52 74 image) ≡ settingsIn form1 image
+  -- what the six bodies say by themselves, they say in the image, in either form
+  settings-there : (form : Form) → settingsIn form1 (replicate 52 0 ++ part (bodiesAt form) 74 image) ≡ settingsIn (layoutOf form) image
+  unfolding settingsIn shownIn offsetOf sumOf
+  settings-there One =
+      rw (← within 52 0 32 (omega arith), ← within 52 32 16 (omega arith), ← within 52 48 6 (omega arith), ← within 52 54 8 (omega arith), ← within 52 62 4 (omega arith), ← within 52 66 8 (omega arith))
+  settings-there Two =
+      rw (← within 60 0 32 (omega arith), ← within 60 32 16 (omega arith), ← within 60 48 6 (omega arith), ← within 60 54 8 (omega arith), ← within 60 62 4 (omega arith), ← within 60 66 8 (omega arith))
+
+  pub fields-there : (form : Form) → 134 ≤ length image → fieldsRead form1 (part (bodiesAt form) 74 image) ≡ settingsIn (layoutOf form) image
   unfolding fieldsRead
-  fields-there h =
-      let size : length (part 52 74 image) ≡ fieldsSize form1 = omega (arith, filler-from-126, length-part 52 74 image (omega arith)) in
-      pick-true _ noSettings (eq-eqb (length (part 52 74 image)) (fieldsSize form1) size) ∙ settings-there
+  fields-there form h =
+      let size : length (part (bodiesAt form) 74 image) ≡ fieldsSize form1 =
+      omega (arith, bodies-end One, length-part (bodiesAt form) 74 image (omega (arith, bodies-begin form))) in
+      pick-true _ noSettings (eq-eqb (length (part (bodiesAt form) 74 image)) (fieldsSize form1) size) ∙ settings-there form
 
   -- and so does the last byte of body 3
-  pub zero-there : getD (part 52 74 image) 53 0 ≡ getD (bodyIn form1 3 image) 5 0
+  pub zero-there : (form : Form) → getD (part (bodiesAt form) 74 image) 53 0 ≡ getD (bodyIn (layoutOf form) 3 image) 5 0
   unfolding offsetOf sumOf
-  zero-there =
-      getD-take 74 (drop 52 image) 53 0 (omega arith) ∙ getD-drop 52 image 53 0 ∙ sym (getD-drop 100 image 5 0) ∙ sym (getD-take 6 (drop 100 image) 5 0 (omega arith))
+  zero-there One = sixth (part 52 74 image) ∙ ap (λ (l : List ℕ). getD l 5 0) (within 52 48 6 (omega arith))
+  zero-there Two = sixth (part 60 74 image) ∙ ap (λ (l : List ℕ). getD l 5 0) (within 60 48 6 (omega arith))

@@ -1,20 +1,30 @@
--- The sums and the table that a layout gives.
+-- The entries and the table that a layout gives.
 use mathlib.Core.Path.{_≡_, refl, sym, ap, _∙_}
-use mathlib.Core.List.{List, [], _∷_, _++_}
+use mathlib.Core.List.{_++_}
 use Prim.Native.Nat.{ℕ, zero, suc, _+_, _-_, _*_, _/_, _%_, _≤_, _<_}
 use native.Mathlib.Nat.{le-of-suc-le-suc}
 use native.Mathlib.Omega.{arith}
-use lib.ListN.{length, getD, take, List·getD-append}
-use Rattle.settings.specs.Layout.{Layout, form1, sumOf, countOf, lengthOf, offsetOf, entryOf, entriesFrom, tableOf}
+use lib.ListN.{getD, List·getD-append}
+use Rattle.settings.specs.declared.Form.{Form}
+use Rattle.settings.specs.declared.Form.the-variants.{One, Two}
+use Rattle.settings.specs.Layout.{Layout, layoutOf, countOf, sevenOf, entryOf, entriesFrom, tableOf}
 
--- the sum of one more
-pub sum-next : (numbers : List ℕ) (i : ℕ) → i < length numbers → sumOf (take (i + 1) numbers) ≡ sumOf (take i numbers) + getD numbers i 0
-unfolding sumOf
-sum-next [] i h = absurd (omega arith)
-sum-next (n ∷ numbers) zero h = omega arith
-sum-next (n ∷ numbers) (suc i) h =
-    let e : suc i + 1 ≡ suc (i + 1) = omega arith in
-    rw e (omega (arith, sum-next numbers i (le-of-suc-le-suc h)))
+-- no form has more than seven entries
+pub count-is-few : (form : Form) → countOf (layoutOf form) ≤ 7
+count-is-few One = omega arith
+count-is-few Two = omega arith
+
+-- what is said of an entry stands at its place among the seven
+pub one-of-seven : (said : ℕ → ℕ) (entry : ℕ) → 0 < entry → entry ≤ 7 → getD (sevenOf said) (entry - 1) 0 ≡ said entry
+one-of-seven said zero a b = absurd (omega arith)
+one-of-seven said (suc zero) a b = refl
+one-of-seven said (suc (suc zero)) a b = refl
+one-of-seven said (suc (suc (suc zero))) a b = refl
+one-of-seven said (suc (suc (suc (suc zero)))) a b = refl
+one-of-seven said (suc (suc (suc (suc (suc zero))))) a b = refl
+one-of-seven said (suc (suc (suc (suc (suc (suc zero)))))) a b = refl
+one-of-seven said (suc (suc (suc (suc (suc (suc (suc zero))))))) a b = refl
+one-of-seven said (suc (suc (suc (suc (suc (suc (suc (suc k)))))))) a b = absurd (omega arith)
 
 -- past the first three fields an entry has zeros
 pub field-zero : (layout : Layout) (entry field : ℕ) → 3 ≤ field → getD (entryOf layout entry) field 0 ≡ 0
@@ -50,31 +60,3 @@ table-at layout place l u =
     let e : place ≡ suc (suc (4 * ((place - 2) / 4) + (place - 2) % 4)) = omega arith in
     ap (λ (k : ℕ). getD (tableOf layout) k 0) e
     ∙ entries-at layout 1 (countOf layout) ((place - 2) / 4) ((place - 2) % 4) (omega arith) (omega arith)
-
--- some of the lengths are no more than all
-sum-of-some : (numbers : List ℕ) (k : ℕ) → sumOf (take k numbers) ≤ sumOf numbers
-unfolding sumOf
-sum-of-some [] zero = omega arith
-sum-of-some [] (suc k) = omega arith
-sum-of-some (n ∷ numbers) zero = omega arith
-sum-of-some (n ∷ numbers) (suc k) = omega (arith, sum-of-some numbers k)
-
-pub sum-small : (k : ℕ) → sumOf (take k (form1 .lengths)) ≤ 74
-unfolding sumOf
-sum-small k = sum-of-some (form1 .lengths) k
-
--- no body of form 1 begins behind the filler
-pub offset-small : (entry : ℕ) → offsetOf form1 entry ≤ 126
-unfolding offsetOf
-offset-small entry = omega (arith, sum-small (entry - 1))
-
--- no length is more than all together
-one-of-sum : (numbers : List ℕ) (k : ℕ) → getD numbers k 0 ≤ sumOf numbers
-unfolding sumOf
-one-of-sum [] k = omega arith
-one-of-sum (n ∷ numbers) zero = omega arith
-one-of-sum (n ∷ numbers) (suc k) = omega (arith, one-of-sum numbers k)
-
-pub length-small : (entry : ℕ) → lengthOf form1 entry ≤ 74
-unfolding sumOf
-length-small entry = one-of-sum (form1 .lengths) (entry - 1)

@@ -1,5 +1,5 @@
 -- What the proofs share, the lowest first.
--- LayoutLaws: the sums and the table that a layout gives.
+-- LayoutLaws: the entries and the table that a layout gives.
 pub mod LayoutLaws
 -- TableLaws: the table stored number by number.
 pub mod TableLaws
@@ -11,3 +11,7 @@ pub mod AgainLaws
 pub mod WriterLaws
 -- ReaderLaws: what the reader tells beside its number.
 pub mod ReaderLaws
+-- PassingLaws: what an image has passed that is found to be written.
+pub mod PassingLaws
+-- MoveLaws: an image that is moved is what the writer would make.
+pub mod MoveLaws

@@ -10,32 +10,52 @@ use Rattle.octets.specs.Number.{bytesOf}
 use Rattle.octets.proofs.Numbers.{length-bytesOf}
 use Rattle.octets.proofs.StoreLaws.{sets-join, stored-front, stored-whole, filled-part}
 use Rattle.checksum.specs.Checksum.{checksumOf}
-use Rattle.settings.specs.declared.Settings.{Settings}
-use Rattle.settings.specs.Layout.{form1, checksumAt, bodiesEnd, tableOf, pairsOf}
-use Rattle.settings.specs.Table.{filler-from-126}
+use Rattle.settings.specs.declared.Form.{Form}
+use Rattle.settings.specs.declared.Form.the-variants.{One, Two}
+use Rattle.settings.specs.Layout.{layoutOf, checksumAt, bodiesEnd, tableOf, pairsOf}
+use Rattle.settings.specs.Table.{bodiesAt, fillerAt, table-ends, bodies-end}
 use Rattle.settings.proofs.TableLaws.{length-table, length-pairs}
-use Rattle.settings.specs.Bodies.{bodiesOf}
-use Rattle.settings.proofs.BodyLaws.{length-bodies}
-use Rattle.settings.specs.Image.{fillerOf, frontOf, sealed}
+use Rattle.settings.specs.Bodies.{nameBody}
+use Rattle.settings.proofs.BodyLaws.{length-all-bodies}
+use Rattle.settings.specs.Image.{fillerOf, sealed}
 
 -- the filler where the bodies end, whatever number that is
-pub filler-put : (area : List ℕ) (from : ℕ) → bodiesEnd form1 ≡ from → from ≤ checksumAt → checksumAt ≤ length area
-    → putMid from (checksumAt - from) area (replicate (length (midOf from (checksumAt - from) area)) 0xFF) ≡ sets area (bodiesEnd form1) (fillerOf form1)
-filler-put area from e h l = rw e (filled-part area from checksumAt 0xFF h l)
+pub filler-put : (form : Form) (area : List ℕ) (from : ℕ) → bodiesEnd (layoutOf form) ≡ from → from ≤ checksumAt → checksumAt ≤ length area
+    → putMid from (checksumAt - from) area (replicate (length (midOf from (checksumAt - from) area)) 0xFF)
+    ≡ sets area (bodiesEnd (layoutOf form)) (fillerOf form)
+filler-put form area from e h l = rw e (filled-part area from checksumAt 0xFF h l)
 
--- ---- settings whose arrays have their lengths, as every value of the struct has
+-- the bodies stand before the filler, and the filler before the checksum
+pub filler-there : (form : Form) → (bodiesAt form ≤ fillerAt form) × (fillerAt form ≤ 198)
+filler-there One = (omega arith, omega arith)
+filler-there Two = (omega arith, omega arith)
 
-module _ (s : Settings) (p : length (s .password) ≡ 32) (r : length (s .«reset_password») ≡ 16) (q : length (s .protection) ≡ 8) where
-  pub length-front : length (frontOf form1 s) ≡ 1020
+-- ---- six bodies and a name of their lengths
+
+module _ (form : Form) (six name : List ℕ) (bodies : length six ≡ 74) (size : length name ≡ 64) where
+  abbrev all : List ℕ
+  all = six ++ nameBody form name
+
+  all-bodies : length all ≡ fillerAt form - bodiesAt form
+  all-bodies = length-all-bodies form six name bodies size
+
+  table-size : length (pairsOf (tableOf (layoutOf form))) ≡ bodiesAt form
+  table-size = omega (arith, length-pairs (tableOf (layoutOf form)), length-table (layoutOf form), table-ends form)
+
+  pub length-front : length (pairsOf (tableOf (layoutOf form)) ++ (all ++ fillerOf form)) ≡ 1020
   length-front =
-      simp (length-append, length-replicate, length-pairs, length-table, filler-from-126) (omega (arith, length-bodies s p r q))
+      let there = filler-there form in
+      simp (length-append (pairsOf (tableOf (layoutOf form))), length-append all, length-replicate, bodies-end form)
+      (omega (arith, all-bodies, table-size, there .0, there .1))
 
   -- table, bodies and filler
   pub front-joined : (area : List ℕ)
-      → sets (sets (sets area 0 (pairsOf (tableOf form1))) 52 (bodiesOf s)) (bodiesEnd form1) (fillerOf form1) ≡ sets area 0 (frontOf form1 s)
+      → sets (sets (sets area 0 (pairsOf (tableOf (layoutOf form)))) (bodiesAt form) all) (bodiesEnd (layoutOf form)) (fillerOf form)
+      ≡ sets area 0 (pairsOf (tableOf (layoutOf form)) ++ (all ++ fillerOf form))
   front-joined area =
-      sets-join (sets area 0 (pairsOf (tableOf form1))) 52 (bodiesEnd form1) (bodiesOf s) (fillerOf form1) (omega (arith, length-bodies s p r q, filler-from-126))
-      ∙ sets-join area 0 52 (pairsOf (tableOf form1)) (bodiesOf s ++ fillerOf form1) (omega (arith, length-pairs (tableOf form1), length-table form1))
+      sets-join (sets area 0 (pairsOf (tableOf (layoutOf form)))) (bodiesAt form) (bodiesEnd (layoutOf form)) all (fillerOf form)
+      (omega (arith, all-bodies, bodies-end form, filler-there form .0))
+      ∙ sets-join area 0 (bodiesAt form) (pairsOf (tableOf (layoutOf form))) (all ++ fillerOf form) (omega (arith, table-size))
 
 -- ---- the checksum
 

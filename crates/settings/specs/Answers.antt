@@ -1,15 +1,20 @@
--- 01, Numbers of refused calls: the number of each answer of the reader and the writer, and what goes with it. A call that is not refused has the number 0.
+-- 01, Numbers of refused calls, and T-09: the number of each answer of the reader, the writer and the moves, and what goes with it. A call that is not
+-- refused has the number 0.
 use Prim.Native.Nat.{ℕ}
 use mathlib.Core.List.{List}
 use Rattle.settings.specs.declared.Settings.{Settings}
+use Rattle.settings.specs.declared.Contents.{Contents}
 use Rattle.settings.specs.declared.Reading.{Reading}
+use Rattle.settings.specs.declared.SettingsReading.{SettingsReading}
 use Rattle.settings.specs.declared.Refusal.{Refusal}
 use Rattle.settings.specs.declared.Refusal.the-variants.{SizeWrong, ChecksumDiffers, FormUnknown, EntryDiffers, FillerDiffers, ValueNotAllowed}
 use Rattle.settings.specs.declared.ReadAnswer.{ReadAnswer}
 use Rattle.settings.specs.declared.ReadAnswer.the-variants.{Accepted, Refused}
 use Rattle.settings.specs.declared.WriteAnswer.{WriteAnswer}
 use Rattle.settings.specs.declared.WriteAnswer.the-variants as write
-use Rattle.settings.specs.Values.{noSettings}
+use Rattle.settings.specs.declared.MoveAnswer.{MoveAnswer}
+use Rattle.settings.specs.declared.MoveAnswer.the-variants as move
+use Rattle.settings.specs.Values.{noContents}
 
 -- an answer's number, and the entry that goes with it
 pub record Numbered : Type 0 where
@@ -37,31 +42,45 @@ readNumbered (Refused refusal) = refusalNumbered refusal
 pub record ReadTold : Type 0 where
   pub number : ℕ
   pub entry : ℕ
-  pub settings : Settings
+  pub contents : Contents
 
 abbrev pub readTold : Reading → ReadTold
 readTold reading = record {
   number = readNumbered (reading .answer) .number;
   entry = readNumbered (reading .answer) .entry;
-  settings = reading .settings;
+  contents = reading .contents;
 }
 
 -- an image that is accepted, and what it says
-abbrev pub accepted : Settings → ReadTold
-accepted settings = record { number = 0; entry = 0; settings = settings }
+abbrev pub accepted : Contents → ReadTold
+accepted contents = record { number = 0; entry = 0; contents = contents }
 
 -- an image that is refused, at an entry or at none
-abbrev pub refusedAt : ℕ → ℕ → ReadTold
-refusedAt number entry = record { number = number; entry = entry; settings = noSettings }
+abbrev pub refused : Numbered → ReadTold
+refused told = record { number = told .number; entry = told .entry; contents = noContents }
 
-abbrev pub refused : ℕ → ReadTold
-refused number = refusedAt number 0
+-- what a session takes of it: neither form nor name
+pub record SettingsTold : Type 0 where
+  pub number : ℕ
+  pub entry : ℕ
+  pub settings : Settings
 
--- "the writer 3 then 8"
+abbrev pub settingsTold : SettingsReading → SettingsTold
+settingsTold reading = record {
+  number = readNumbered (reading .answer) .number;
+  entry = readNumbered (reading .answer) .entry;
+  settings = reading .settings;
+}
+
+abbrev pub settingsOnly : ReadTold → SettingsTold
+settingsOnly told = record { number = told .number; entry = told .entry; settings = told .contents .settings }
+
+-- "the writer 3 then 8"; T-09: "41, a name not all 0xFF .. in form 1 settings to be written, after 8"
 abbrev pub writeNumber : WriteAnswer → ℕ
 writeNumber write.Written = 0
 writeNumber write.SizeWrong = 3
 writeNumber write.ValueNotAllowed = 8
+writeNumber write.NameNotEmpty = 41
 
 -- all that the writer leaves: its number, and the area
 pub record WriteLeft : Type 0 where
@@ -70,3 +89,17 @@ pub record WriteLeft : Type 0 where
 
 abbrev pub writeLeft : ℕ → List ℕ → WriteLeft
 writeLeft number image = record { number = number; image = image }
+
+-- T-09: "each move checks as the reader", and "41, a name not all 0xFF on the way back"
+abbrev pub moveNumbered : MoveAnswer → Numbered
+moveNumbered move.Moved = numbered 0 0
+moveNumbered (move.Refused refusal) = refusalNumbered refusal
+moveNumbered move.NameNotEmpty = numbered 41 0
+
+-- all that a move leaves: its number and entry, and the image
+pub record MoveLeft : Type 0 where
+  pub told : Numbered
+  pub image : List ℕ
+
+abbrev pub moveLeft : Numbered → List ℕ → MoveLeft
+moveLeft told image = record { told = told; image = image }

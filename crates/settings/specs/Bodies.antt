@@ -1,11 +1,15 @@
--- 01, Settings image: the bodies of some settings, and what the bodies of an image say.
+-- 01, Settings image: the bodies of some settings, and what the bodies of an image say. T-09: the name as a seventh.
 use Prim.Native.Nat.{ℕ}
 use mathlib.Core.List.{List, [], _∷_, _++_}
 use lib.ListN.{getD}
 use Rattle.octets.specs.Number.{bytesOf, part, numberAt}
 use Rattle.settings.specs.declared.Shown.{Shown}
 use Rattle.settings.specs.declared.Settings.{Settings}
-use Rattle.settings.specs.Layout.{Layout, lengthOf, offsetOf}
+use Rattle.settings.specs.declared.Form.{Form}
+use Rattle.settings.specs.declared.Form.the-variants.{One, Two}
+use Rattle.settings.specs.declared.Contents.{Contents}
+use Rattle.settings.specs.Values.{noName}
+use Rattle.settings.specs.Layout.{Layout, form2, layoutOf, lengthOf, offsetOf}
 
 -- kind 3: reset mode, alert, readout in two bytes, settings protected, a zero byte
 abbrev pub valuesOf : Shown → List ℕ
@@ -16,11 +20,23 @@ valuesOf shown =
 abbrev pub numbersOf : Shown → List ℕ
 numbersOf shown = bytesOf 4 (shown .«bcr_id») ++ (bytesOf 4 (shown .«bsl_id») ++ bytesOf 4 (shown .«version_pointer»))
 
--- the bodies in the order of their kinds; kind 6 is "one bit a sector"
+-- the six bodies in the order of their kinds; kind 6 is "one bit a sector"
 unfoldable pub bodiesOf : Settings → List ℕ
 bodiesOf settings =
     settings .password
     ++ (settings .«reset_password» ++ (valuesOf (settings .shown) ++ (numbersOf (settings .shown) ++ settings .protection)))
+
+-- T-09: "Settings remember their form"
+abbrev pub contentsOf : Form → Settings → List ℕ → Contents
+contentsOf form settings name = record { form = form; settings = settings; name = name }
+
+-- T-09: "the bodies keep their order, the name comes last", in the form that has one
+abbrev pub nameBody : Form → List ℕ → List ℕ
+nameBody One name = []
+nameBody Two name = name
+
+abbrev pub allBodiesOf : Contents → List ℕ
+allBodiesOf contents = bodiesOf (contents .settings) ++ nameBody (contents .form) (contents .name)
 
 -- the body of an entry
 abbrev pub bodyIn : Layout → ℕ → List ℕ → List ℕ
@@ -38,7 +54,7 @@ shownIn layout image = record {
   «version_pointer» = numberAt 0 4 (bodyIn layout 5 image);
 }
 
--- what all the bodies say: "Bits for sectors beyond MAIN are kept"
+-- what the six bodies say: "Bits for sectors beyond MAIN are kept"
 unfoldable pub settingsIn : Layout → List ℕ → Settings
 settingsIn layout image = record {
   shown = shownIn layout image;
@@ -46,3 +62,11 @@ settingsIn layout image = record {
   password = bodyIn layout 1 image;
   «reset_password» = bodyIn layout 2 image;
 }
+
+-- a form 1 image, like a blank one, says no name
+abbrev pub nameIn : Form → List ℕ → List ℕ
+nameIn One image = noName
+nameIn Two image = bodyIn form2 7 image
+
+abbrev pub contentsIn : Form → List ℕ → Contents
+contentsIn form image = contentsOf form (settingsIn (layoutOf form) image) (nameIn form image)

@@ -1,4 +1,4 @@
--- The fields of some settings: the bodies of their image by themselves, bytes 52 to 125 of form 1.
+-- The fields of some settings: their six bodies by themselves, bytes 52 to 125 of an image of form 1 and 60 to 133 of form 2.
 use Prim.Native.Nat.{ℕ, _-_}
 use mathlib.Core.List.{List, _++_}
 use lib.Dec.{eqb}
@@ -17,3 +17,11 @@ fieldsSize layout = bodiesEnd layout - tableEnd layout
 unfoldable pub fieldsRead : Layout → List ℕ → Settings
 fieldsRead layout fields =
     pick (eqb (length fields) (fieldsSize layout)) (settingsIn layout (replicate (tableEnd layout) 0 ++ fields)) noSettings
+
+-- how many bytes of fields a record keeps
+abbrev pub keptSize : ℕ
+keptSize = 74
+
+-- the zero byte of body 3, among the fields
+abbrev pub zeroAt : ℕ
+zeroAt = 53

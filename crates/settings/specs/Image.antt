@@ -1,25 +1,26 @@
--- The image of some settings: table, bodies, filler, checksum.
+-- The image of some contents: table, bodies, filler, checksum.
 use Prim.Native.Nat.{ℕ, _-_}
 use mathlib.Core.List.{List, _++_}
 use lib.ListN.{replicate}
 use Rattle.octets.specs.Number.{bytesOf}
 use Rattle.checksum.specs.Checksum.{checksumOf}
-use Rattle.settings.specs.declared.Settings.{Settings}
-use Rattle.settings.specs.Layout.{Layout, checksumAt, bodiesEnd, tableOf, pairsOf}
-use Rattle.settings.specs.Bodies.{bodiesOf}
+use Rattle.settings.specs.declared.Form.{Form}
+use Rattle.settings.specs.declared.Contents.{Contents}
+use Rattle.settings.specs.Layout.{layoutOf, checksumAt, bodiesEnd, tableOf, pairsOf}
+use Rattle.settings.specs.Bodies.{allBodiesOf}
 
--- "Bytes 126 to 1,019 are 0xFF."
-abbrev pub fillerOf : Layout → List ℕ
-fillerOf layout = replicate (checksumAt - bodiesEnd layout) 0xFF
+-- "Bytes 126 to 1,019 are 0xFF."; T-09: "0xFF fills the rest up to the checksum"
+abbrev pub fillerOf : Form → List ℕ
+fillerOf form = replicate (checksumAt - bodiesEnd (layoutOf form)) 0xFF
 
 -- bytes 0 to 1,019
-abbrev pub frontOf : Layout → Settings → List ℕ
-frontOf layout settings = pairsOf (tableOf layout) ++ (bodiesOf settings ++ fillerOf layout)
+abbrev pub frontOf : Contents → List ℕ
+frontOf contents = pairsOf (tableOf (layoutOf (contents .form))) ++ (allBodiesOf contents ++ fillerOf (contents .form))
 
 -- "Bytes 1,020 to 1,023 are the checksum of bytes 0 to 1,019."
 abbrev pub sealed : List ℕ → List ℕ
 sealed front = front ++ bytesOf 4 (checksumOf front)
 
--- the image of some settings
-unfoldable pub imageOf : Layout → Settings → List ℕ
-imageOf layout settings = sealed (frontOf layout settings)
+-- T-09: "Settings remember their form, blank counts as form 1, and the writer writes that form."
+unfoldable pub imageOf : Contents → List ℕ
+imageOf contents = sealed (frontOf contents)

@@ -4,6 +4,8 @@ use Prim.Native.Nat.{ℕ, zero, suc, _+_, _-_, _*_}
 use mathlib.Core.List.{List, [], _∷_, _++_}
 use lib.ListN.{length, getD, take}
 use Rattle.octets.specs.Number.{bytesOf}
+use Rattle.settings.specs.declared.Form.{Form}
+use Rattle.settings.specs.declared.Form.the-variants.{One, Two}
 
 pub record Layout : Type 0 where
   pub form : ℕ
@@ -12,6 +14,14 @@ pub record Layout : Type 0 where
 -- form 1: the lengths of 01's six bodies
 abbrev pub form1 : Layout
 form1 = record { form = 1; lengths = 32 ∷ 16 ∷ 6 ∷ 8 ∷ 4 ∷ 8 ∷ [] }
+
+-- form 2, T-09: "Settings form 2 has count 7; kind 7 is a 64-byte name.", "the bodies keep their order, the name comes last"
+abbrev pub form2 : Layout
+form2 = record { form = 2; lengths = 32 ∷ 16 ∷ 6 ∷ 8 ∷ 4 ∷ 8 ∷ 64 ∷ [] }
+
+abbrev pub layoutOf : Form → Layout
+layoutOf One = form1
+layoutOf Two = form2
 
 -- "An image of 1,024 bytes", "Bytes 1,020 to 1,023 are the checksum of bytes 0 to 1,019."
 abbrev pub imageSize : ℕ
@@ -44,6 +54,10 @@ offsetOf layout entry = tableEnd layout + sumOf (take (entry - 1) (layout .lengt
 -- where the bodies end, and the filler begins
 abbrev pub bodiesEnd : Layout → ℕ
 bodiesEnd layout = offsetOf layout (countOf layout + 1)
+
+-- what is said of each entry, for as many as the longer table has
+abbrev pub sevenOf : (ℕ → ℕ) → List ℕ
+sevenOf said = said 1 ∷ said 2 ∷ said 3 ∷ said 4 ∷ said 5 ∷ said 6 ∷ said 7 ∷ []
 
 -- "kind, offset, length, zero"
 abbrev pub entryOf : Layout → ℕ → List ℕ

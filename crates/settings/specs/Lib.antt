@@ -1,19 +1,17 @@
 -- What is right, in reading order; each definition of a rule names its sentence of document 01.
--- Values: the values that are allowed, and the settings of a blank image.
+-- Values: the values that are allowed, and the contents of a blank image.
 pub mod Values
--- Layout: the offsets and the table, from the lengths of the bodies.
+-- Layout: the offsets and the table of each form, from the lengths of its bodies.
 pub mod Layout
--- Table: 01's table, which the layout gives.
+-- Table: the tables line by line, which the layouts give.
 pub mod Table
 -- Entries: which entry of an image differs from the table.
 pub mod Entries
--- Bodies: the bodies of some settings, and what the bodies of an image say.
+-- Bodies: the bodies of some contents, and what the bodies of an image say.
 pub mod Bodies
--- Fields: the bodies by themselves.
+-- Fields: the six bodies by themselves, as a record keeps them.
 pub mod Fields
--- FieldsArea: the numbers of such an area in form 1, for the boundary to C.
-pub mod FieldsArea
--- Image: the image of some settings.
+-- Image: the image of some contents.
 pub mod Image
 -- Answers: 01's number for each answer.
 pub mod Answers
@@ -21,3 +19,5 @@ pub mod Answers
 pub mod Reader
 -- Writer: what is written, and where.
 pub mod Writer
+-- Moves: from one form to the other.
+pub mod Moves

@@ -44,7 +44,7 @@ fn joined(
 }
 
 // The fields of some settings.
-fn fields_of(settings: Settings) -> [u8; 74]
+pub(crate) fn fields_of(settings: Settings) -> [u8; 74]
     ensures { λ r. ⌜ r ≡ bodiesOf settings ⌝ }
 {
     let password = settings.password;

@@ -1,7 +1,9 @@
-// The settings of a board: as values, as the fields of an image, and as the image whole, read and written by one layout.
+// The settings of a board: as values, as the fields of an image, and as the image whole, read and written by one layout for each form.
 mod allowed;
+mod checks;
 mod fields_reader;
 mod fields_writer;
+mod moves;
 mod places;
 mod presets;
 mod reader;
@@ -11,9 +13,12 @@ mod writer;
 pub use allowed::are_allowed;
 pub use fields_reader::read_fields;
 pub use fields_writer::put_fields;
+pub use moves::to_form_1;
+pub use moves::to_form_2;
 pub use presets::blank;
 pub use presets::none;
 pub use reader::read;
+pub use reader::read_settings;
 pub use writer::write;
 
 // What may be shown of the settings: raw numbers, as they stand in bodies 3, 4 and 5.
@@ -35,17 +40,20 @@ pub struct Settings {
     pub reset_password: [u8; 16],
 }
 
-// The form number, and how many entries the table has.
-pub(crate) const FORM: u16 = 1;
+// The forms of an image: 01's, and the one with a name.
+pub enum Form {
+    One,
+    Two,
+}
 
-pub(crate) const ENTRIES: usize = 6;
+// What an image holds: the settings, and beside them its form and a name.
+pub struct Contents {
+    pub form: Form,
+    pub settings: Settings,
+    pub name: [u8; 64],
+}
 
-// A table is so many numbers of two bytes each; the bodies begin where it ends.
-const TABLE_NUMBERS: usize = 2 + 4 * ENTRIES;
-
-pub(crate) const BODIES_AT: usize = 2 * TABLE_NUMBERS;
-
-// Where each body begins: the first at the start, each other where the one before it ends.
+// Where each of the six bodies begins, among them: the first at the start, each other where the one before it ends.
 const PASSWORD_AT: usize = 0;
 
 const RESET_PASSWORD_AT: usize = PASSWORD_AT + 32;
@@ -58,8 +66,13 @@ const POINTER_AT: usize = IDS_AT + 8;
 
 const PROTECTION_AT: usize = POINTER_AT + 4;
 
-// How many bytes the bodies have.
+// How many bytes the six have, and how many a name.
 pub const FIELDS_SIZE: usize = PROTECTION_AT + 8;
+
+pub const NAME_SIZE: usize = 64;
+
+// Where the name begins, in an image that has one.
+const NAME_AT: usize = 134;
 
 // The last byte of body 3, which is 0 in every image that is accepted.
 pub const ZERO_AT: usize = IDS_AT - 1;
@@ -68,11 +81,6 @@ pub const ZERO_AT: usize = IDS_AT - 1;
 pub const IMAGE_SIZE: usize = 1024;
 
 pub const CHECKSUM_AT: usize = 1020;
-
-// Where the bodies end and the filler begins, which goes on up to the checksum.
-const BODIES_END: usize = BODIES_AT + FIELDS_SIZE;
-
-const FILLER_SIZE: usize = CHECKSUM_AT - BODIES_END;
 
 // Why an image is refused. An entry is told by its number, counted from 1.
 pub enum Refusal {
@@ -90,8 +98,14 @@ pub enum ReadAnswer {
     Refused(Refusal),
 }
 
-// The answer, and the settings that were read; beside a refusal stand settings that no call takes.
+// The answer, and the contents that were read; beside a refusal stand settings that no call takes.
 pub struct Reading {
+    pub answer: ReadAnswer,
+    pub contents: Contents,
+}
+
+// What a session takes of them: the settings alone.
+pub struct SettingsReading {
     pub answer: ReadAnswer,
     pub settings: Settings,
 }
@@ -101,4 +115,32 @@ pub enum WriteAnswer {
     Written,
     SizeWrong,
     ValueNotAllowed,
+    NameNotEmpty,
+}
+
+// What a move answers.
+pub enum MoveAnswer {
+    Moved,
+    Refused(Refusal),
+    NameNotEmpty,
+}
+
+// Which forms are taken: by the reader both, by a move the one that it starts from.
+pub enum Forms {
+    Both,
+    OnlyOne,
+    OnlyTwo,
+}
+
+// The form of an image, if it is one of those.
+pub enum Found {
+    Known(Form),
+    Unknown,
+}
+
+// What an image is found to be.
+pub enum Checked {
+    Blank,
+    Written(Form),
+    Refused(Refusal),
 }

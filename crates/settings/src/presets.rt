@@ -1,6 +1,9 @@
-// The settings that stand for a blank image, or for none.
+// What stands for a blank image, or for none.
 ghost use mathlib.Core.Path.{_≡_};
-ghost use Rattle.settings.specs.Values.{blankSettings, noSettings};
+ghost use Rattle.settings.specs.Values.{blankSettings, noSettings, noName, blankContents, noContents};
+use crate::Contents;
+use crate::Form;
+use crate::NAME_SIZE;
 use crate::Settings;
 use crate::Shown;
 
@@ -43,5 +46,33 @@ pub fn none() -> Settings
         protection: [0; 8],
         password: [0; 32],
         reset_password: [0; 16],
+    }
+}
+
+// The name of an image that has none.
+pub(crate) fn no_name() -> [u8; 64]
+    ensures { λ r. ⌜ r ≡ noName ⌝ }
+{
+    [0xFF; NAME_SIZE]
+}
+
+// The contents of a blank image, which counts as form 1.
+pub(crate) fn blank_contents() -> Contents
+    ensures { λ r. ⌜ r ≡ blankContents ⌝ }
+{
+    Contents {
+        form: Form::One,
+        settings: blank(),
+        name: no_name(),
+    }
+}
+
+pub(crate) fn no_contents() -> Contents
+    ensures { λ r. ⌜ r ≡ noContents ⌝ }
+{
+    Contents {
+        form: Form::One,
+        settings: none(),
+        name: no_name(),
     }
 }

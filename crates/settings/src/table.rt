@@ -1,34 +1,35 @@
 // The table of an image, two bytes a number: stored, and looked at entry by entry.
 ghost use mathlib.Core.Path.{_≡_};
 ghost use lib.Seq.{sets};
-ghost use Rattle.settings.specs.Layout.{form1, tableOf, pairsOf};
+ghost use Rattle.settings.specs.Layout.{layoutOf, tableOf, pairsOf};
 ghost use Rattle.settings.specs.Entries.{differingEntry};
-use crate::ENTRIES;
-use crate::TABLE_NUMBERS;
+use crate::Form;
 use crate::places;
 
-// Stores the table from the start on, as far as there is room.
-pub(crate) fn put_table(image: &mut [u8])
-    ensures { λ _. ⌜ now (image .exit) ≡ sets (now (image .entry)) 0 (pairsOf (tableOf form1)) ⌝ }
+// Stores the table of a form from the start on, as far as there is room.
+pub(crate) fn put_table(form: Form, image: &mut [u8])
+    ensures { λ _. ⌜ now (image .exit) ≡ sets (now (image .entry)) 0 (pairsOf (tableOf (layoutOf form))) ⌝ }
 {
-    for place in 0..TABLE_NUMBERS {
-        let number = places::table_number(place);
+    let count = 2 + 4 * places::entries_of(form);
+    for place in 0..count {
+        let number = places::table_number(form, place);
         octets::put_number(image, 2 * place, 2, number as u32);
     }
 }
 
-// The number of the first entry that differs from the table, counted from 1; 0 where none does.
-pub(crate) fn differing_entry(image: &[u8]) -> usize
-    ensures { λ r. ⌜ r ≡ differingEntry form1 (now (image .entry)) ⌝ }
+// The number of the first entry that differs from the form's table, counted from 1; 0 where none does.
+pub(crate) fn differing_entry(form: Form, image: &[u8]) -> usize
+    ensures { λ r. ⌜ r ≡ differingEntry (layoutOf form) (now (image .entry)) ⌝ }
 {
+    let entries = places::entries_of(form);
     let mut passed = 0;
     let differing = 'search: loop {
-        if ENTRIES <= passed {
+        if entries <= passed {
             break 'search 0;
         }
         for field in 0..4 {
             let place = 2 + 4 * passed + field;
-            if octets::number16_at(image, 2 * place) != places::table_number(place) {
+            if octets::number16_at(image, 2 * place) != places::table_number(form, place) {
                 break 'search passed + 1;
             }
         }

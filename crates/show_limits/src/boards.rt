@@ -1,6 +1,8 @@
 // The settings flash of a board, by its row: reset mode, alert, readout, settings protection, the sectors 0 to 7 and the version
 // pointer. A row with no bytes is a blank board.
 use crate::rows;
+use settings::Contents;
+use settings::Form;
 use settings::Settings;
 use settings::Shown;
 
@@ -36,5 +38,10 @@ pub(crate) fn put_settings(row: &[u8], image: &mut [u8]) {
     }
     rows::put_bytes(row, BOARD_BYTES, image, 0);
     let settings = settings_in(image);
-    settings::write(settings, image);
+    let contents = Contents {
+        form: Form::One,
+        settings,
+        name: [0xFF; 64],
+    };
+    settings::write(contents, image);
 }

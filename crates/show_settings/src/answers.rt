@@ -1,6 +1,7 @@
-// The answers of the reader and the writer, told by the numbers that document 01 gives them.
+// The answers of the reader, the writer and the moves, told by the numbers that the documents give them.
 use crate::text;
 use c_records::REFUSAL_UNIT;
+use settings::MoveAnswer;
 use settings::ReadAnswer;
 use settings::WriteAnswer;
 
@@ -27,5 +28,14 @@ pub(crate) fn say_writing(answer: WriteAnswer) {
         WriteAnswer::Written => text::say(b" accepted"),
         WriteAnswer::SizeWrong => say_refused(c_records::SETTINGS_SIZE_WRONG),
         WriteAnswer::ValueNotAllowed => say_refused(c_records::VALUE_NOT_ALLOWED),
+        WriteAnswer::NameNotEmpty => say_refused(c_records::NAME_NOT_EMPTY),
+    }
+}
+
+pub(crate) fn say_moving(answer: MoveAnswer) {
+    match answer {
+        MoveAnswer::Moved => text::say(b" accepted"),
+        MoveAnswer::Refused(refusal) => say_refused(c_records::of_refusal(refusal)),
+        MoveAnswer::NameNotEmpty => say_refused(c_records::NAME_NOT_EMPTY),
     }
 }

@@ -1,6 +1,9 @@
 // What settings and images hold, in the order of document 01.
+ghost use Prim.Native.Nat.{_<_};
 use crate::text;
 use settings::CHECKSUM_AT;
+use settings::Contents;
+use settings::Form;
 use settings::Settings;
 use settings::Shown;
 
@@ -32,7 +35,7 @@ fn show_values(shown: Shown) {
     show_number(names, 6, shown.version_pointer);
 }
 
-pub(crate) fn show_settings(settings: Settings) {
+fn show_settings(settings: Settings) {
     let names: &[u8] = b"
              password:
        reset password:
@@ -43,21 +46,44 @@ pub(crate) fn show_settings(settings: Settings) {
     show_bytes(names, 2, &settings.protection);
 }
 
+fn show_form(names: &[u8], row: u8, form: Form) {
+    match form {
+        Form::One => show_number(names, row, 1),
+        Form::Two => show_number(names, row, 2),
+    }
+}
+
+pub(crate) fn show_contents(contents: Contents) {
+    let names: &[u8] = b"
+                 form:
+                 name:";
+    let form = contents.form;
+    show_form(names, 0, form);
+    show_settings(contents.settings);
+    show_bytes(names, 1, &contents.name);
+}
+
 fn show_part(names: &[u8], row: u8, image: &[u8], at: usize, count: usize) {
     show_bytes(names, row, octets::part_of(image, at, count));
 }
 
 // The bytes between the bodies and the checksum are counted where each is 0xFF.
-fn show_filler(names: &[u8], row: u8, image: &[u8]) {
-    let filler = octets::part_of(image, 126, CHECKSUM_AT - 126);
-    text::say_name(names, row);
+fn show_filler(image: &[u8], at: usize)
+    requires { ⌜ at < 1020 ⌝ }
+{
+    let names: &[u8] = b"
+      filler bytes FF:
+             checksum:";
+    let filler = octets::part_of(image, at, CHECKSUM_AT - at);
+    text::say_name(names, 0);
     if octets::all_are(0xFF, filler) {
         text::say_number(filler.len() as u64);
     }
+    show_part(names, 1, image, CHECKSUM_AT, 4);
 }
 
 // A row for each part: where it begins, and how many bytes it has.
-pub(crate) fn show_image(image: &[u8]) {
+fn show_entries(image: &[u8]) {
     let names: &[u8] = b"
        form and count:
               entry 1:
@@ -65,15 +91,7 @@ pub(crate) fn show_image(image: &[u8]) {
               entry 3:
               entry 4:
               entry 5:
-              entry 6:
-               body 1:
-               body 2:
-               body 3:
-               body 4:
-               body 5:
-               body 6:
-      filler bytes FF:
-             checksum:";
+              entry 6:";
     show_part(names, 0, image, 0, 4);
     show_part(names, 1, image, 4, 8);
     show_part(names, 2, image, 12, 8);
@@ -81,12 +99,41 @@ pub(crate) fn show_image(image: &[u8]) {
     show_part(names, 4, image, 28, 8);
     show_part(names, 5, image, 36, 8);
     show_part(names, 6, image, 44, 8);
-    show_part(names, 7, image, 52, 32);
-    show_part(names, 8, image, 84, 16);
-    show_part(names, 9, image, 100, 6);
-    show_part(names, 10, image, 106, 8);
-    show_part(names, 11, image, 114, 4);
-    show_part(names, 12, image, 118, 8);
-    show_filler(names, 13, image);
-    show_part(names, 14, image, CHECKSUM_AT, 4);
+}
+
+fn show_bodies(image: &[u8], at: usize)
+    requires { ⌜ at < 1020 ⌝ }
+{
+    let names: &[u8] = b"
+               body 1:
+               body 2:
+               body 3:
+               body 4:
+               body 5:
+               body 6:";
+    show_part(names, 0, image, at, 32);
+    show_part(names, 1, image, at + 32, 16);
+    show_part(names, 2, image, at + 48, 6);
+    show_part(names, 3, image, at + 54, 8);
+    show_part(names, 4, image, at + 62, 4);
+    show_part(names, 5, image, at + 66, 8);
+}
+
+// An image of form 1.
+pub(crate) fn show_image(image: &[u8]) {
+    show_entries(image);
+    show_bodies(image, 52);
+    show_filler(image, 126);
+}
+
+// An image of form 2.
+pub(crate) fn show_named_image(image: &[u8]) {
+    let names: &[u8] = b"
+              entry 7:
+               body 7:";
+    show_entries(image);
+    show_part(names, 0, image, 52, 8);
+    show_bodies(image, 60);
+    show_part(names, 1, image, 134, 64);
+    show_filler(image, 198);
 }

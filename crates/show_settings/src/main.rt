@@ -1,24 +1,26 @@
-// Shows the settings reader and writer at work: a blank image, the image that is written of its settings, and each refusal.
+// Shows the settings reader, the writer and the moves at work: a blank image, the image that is written of its contents, each refusal, and
+// images of both forms.
 mod answers;
 mod contents;
+mod moves;
 mod refusals;
 mod text;
 
-use settings::Settings;
+use settings::Contents;
 
-fn show_blank() -> Settings {
+fn show_blank() -> Contents {
     let reading = settings::read(&[0xFF; 1024]);
     let answer = reading.answer;
     text::say(b"          blank image:");
     answers::say_reading(answer);
-    contents::show_settings(reading.settings);
-    reading.settings
+    contents::show_contents(reading.contents);
+    reading.contents
 }
 
-fn show_written(settings: Settings) -> [u8; 1024] {
+fn show_written(contents: Contents) -> [u8; 1024] {
     let mut image = [0u8; 1024];
-    let answer = settings::write(settings, &mut image);
-    text::say(b"\n its settings written:");
+    let answer = settings::write(contents, &mut image);
+    text::say(b"\n its contents written:");
     answers::say_writing(answer);
     contents::show_image(&image);
     image
@@ -29,5 +31,7 @@ fn main() {
     let image = show_written(blank);
     refusals::show_reader(&image);
     refusals::show_writer(blank);
+    moves::show_forms(&image);
+    moves::show_name(blank);
     text::say(b"\n");
 }

@@ -3,12 +3,12 @@ ghost use Prim.Native.Nat.{_<_};
 use crate::answers;
 use crate::text;
 use settings::CHECKSUM_AT;
-use settings::Settings;
+use settings::Contents;
 
 // What every byte of an area is before the writer gets it.
 const LENT: u8 = 0x5A;
 
-fn show_reading(names: &[u8], row: u8, image: &[u8]) {
+pub(crate) fn show_reading(names: &[u8], row: u8, image: &[u8]) {
     let reading = settings::read(image);
     let answer = reading.answer;
     text::say_name(names, row);
@@ -16,7 +16,7 @@ fn show_reading(names: &[u8], row: u8, image: &[u8]) {
 }
 
 // One byte is changed and the checksum stored anew; the byte goes in again after that, since it may be one of the checksum's.
-fn show_change(names: &[u8], row: u8, image: &[u8], at: usize, byte: u8)
+pub(crate) fn show_change(names: &[u8], row: u8, image: &[u8], at: usize, byte: u8)
     requires { ⌜ at < 1024 ⌝ }
 {
     let mut changed = [0u8; 1024];
@@ -66,8 +66,8 @@ the image, read again:
 }
 
 // What the writer answers, and whether the area is still as lent.
-fn show_writing(names: &[u8], row: u8, settings: Settings, area: &mut [u8]) {
-    let answer = settings::write(settings, area);
+fn show_writing(names: &[u8], row: u8, contents: Contents, area: &mut [u8]) {
+    let answer = settings::write(contents, area);
     text::say_name(names, row);
     answers::say_writing(answer);
     if octets::all_are(LENT, area) {
@@ -75,14 +75,22 @@ fn show_writing(names: &[u8], row: u8, settings: Settings, area: &mut [u8]) {
     }
 }
 
-pub(crate) fn show_writer(settings: Settings) {
+pub(crate) fn show_writer(contents: Contents) {
     let names: &[u8] = b"
   writing, 1023 bytes:
-writing, reset mode 3:";
-    let mut wrong = settings;
-    wrong.shown.reset_mode = 3;
+writing, reset mode 3:
+writing, form 1, name:
+         both of them:";
+    let mut wrong = contents;
+    wrong.settings.shown.reset_mode = 3;
+    let mut named = contents;
+    named.name[63] = 0x41;
+    let mut both = wrong;
+    both.name[63] = 0x41;
     let mut short = [LENT; 1023];
     let mut area = [LENT; 1024];
-    show_writing(names, 0, settings, &mut short);
+    show_writing(names, 0, contents, &mut short);
     show_writing(names, 1, wrong, &mut area);
+    show_writing(names, 2, named, &mut area);
+    show_writing(names, 3, both, &mut area);
 }

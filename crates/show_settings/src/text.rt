@@ -1,8 +1,8 @@
 // Plain text on standard output. A line begins with the end of the line before it; what is told after its name begins with a space.
 use libc::STDOUT_FILENO;
 
-// So many bytes are shown: a password has no more.
-const MOST_SHOWN: usize = 32;
+// So many bytes are shown: a name has no more.
+const MOST_SHOWN: usize = 64;
 
 pub(crate) fn say(text: &[u8]) {
     io::write_all(STDOUT_FILENO, text);

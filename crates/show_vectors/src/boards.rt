@@ -4,6 +4,8 @@ use line::CORE_AT;
 use line::codes;
 use session::CallAnswer;
 use session::Session;
+use settings::Contents;
+use settings::Form;
 use settings::Settings;
 
 // The size of a Factory reset that carries the reset password.
@@ -23,7 +25,12 @@ fn settings_for(packet: &[u8]) -> Settings {
 }
 
 fn started(packet: &[u8], main: &[u8], image: &mut [u8], window: &[u8]) -> Session {
-    settings::write(settings_for(packet), image);
+    let contents = Contents {
+        form: Form::One,
+        settings: settings_for(packet),
+        name: [0xFF; 64],
+    };
+    settings::write(contents, image);
     mspm0::start(false, main, image, window).session
 }
 

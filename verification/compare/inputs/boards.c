@@ -95,27 +95,80 @@ void break_fields(struct dice *dice, uint8_t *fields)
     fields[at[which]] = chance(dice, 60) ? limit[which] : (uint8_t)(limit[which] + below(dice, 256u - limit[which]));
 }
 
+/* No name, one of noise, or one of which a single byte at an end is not 0xFF. */
+static void choose_name(struct dice *dice, uint8_t *name)
+{
+    memset(name, 0xFF, NAME_BYTES);
+    if (chance(dice, 40))
+        noise(dice, name, NAME_BYTES);
+    else if (chance(dice, 40))
+        name[chance(dice, 50) ? 0 : NAME_BYTES - 1] ^= (uint8_t)(1u << below(dice, 8));
+}
+
+void choose_form(struct dice *dice, uint8_t *fields)
+{
+    bool two = chance(dice, 50);
+    write16(fields + FORM_AT, two ? 2 : 1);
+    memset(fields + NAME_AT, 0xFF, NAME_BYTES);
+    if (two)
+        choose_name(dice, fields + NAME_AT);
+}
+
+void choose_contents(struct dice *dice, uint32_t main_size, uint8_t *fields)
+{
+    choose_form(dice, fields);
+    choose_fields(dice, main_size, fields);
+}
+
+void break_contents(struct dice *dice, uint8_t *fields)
+{
+    static const uint16_t forms[] = {0, 3, 0x0100, 0x0101, 0x0102, 0x0200, 0xFFFF};
+    if (chance(dice, 40))
+        break_fields(dice, fields);
+    if (chance(dice, 40))
+        write16(fields + FORM_AT, ONE_OF(dice, forms));
+    if (chance(dice, 60))
+        choose_name(dice, fields + NAME_AT);
+}
+
 /* ---- Settings images ---- */
+
+/* A form with the other's count, or one that there is not. */
+static void break_form(struct dice *dice, uint8_t *image)
+{
+    if (chance(dice, 50))
+        image[2] ^= 6 ^ 7;
+    else if (chance(dice, 40))
+        image[0] ^= 1 ^ 2;
+    else
+        image[below(dice, 4)] ^= (uint8_t)(1u << below(dice, 8));
+}
+
+static void break_filler(struct dice *dice, uint8_t *image)
+{
+    uint32_t from = is_form_2(image) ? FILLER_AT_2 : FILLER_AT_1;
+    uint32_t ends[] = {from, from, IMAGE_CHECKSUM_AT - 1, FILLER_AT_2};
+    uint32_t at = chance(dice, 50) ? ends[below(dice, 4)] : from + below(dice, IMAGE_CHECKSUM_AT - from);
+    image[at] ^= (uint8_t)(1u << below(dice, 8));
+}
 
 /* One change that refusal 5, 6, 7 or 8 is about. */
 static void break_image(struct dice *dice, uint8_t *image)
 {
-    static const uint16_t filler_ends[] = {IMAGE_FILLER_AT, IMAGE_CHECKSUM_AT - 1};
-    uint32_t at;
+    uint32_t table = (uint32_t)fields_at(image) - IMAGE_ENTRIES_AT;
     switch (below(dice, 5)) {
     case 0:
-        image[below(dice, 4)] ^= (uint8_t)(1u << below(dice, 8));
+        break_form(dice, image);
         break;
     case 1:
     case 2:
-        image[IMAGE_ENTRIES_AT + below(dice, 48)] ^= (uint8_t)(1u << below(dice, 8));
+        image[IMAGE_ENTRIES_AT + below(dice, table)] ^= (uint8_t)(1u << below(dice, 8));
         break;
     case 3:
-        at = IMAGE_FILLER_AT + below(dice, IMAGE_CHECKSUM_AT - IMAGE_FILLER_AT);
-        image[chance(dice, 50) ? ONE_OF(dice, filler_ends) : at] ^= (uint8_t)(1u << below(dice, 8));
+        break_filler(dice, image);
         break;
     default:
-        break_fields(dice, image + IMAGE_FIELDS_AT);
+        break_fields(dice, image + fields_at(image));
     }
 }
 
@@ -149,7 +202,7 @@ struct step choose_settings(struct dice *dice, uint32_t main_size)
 {
     struct step step = {.kind = SET_SETTINGS};
     uint8_t fields[FIELDS_BYTES], image[SETTINGS_BYTES];
-    choose_fields(dice, main_size, fields);
+    choose_contents(dice, main_size, fields);
     make_image(fields, image);
     if (chance(dice, 12))
         memset(image, 0xFF, SETTINGS_BYTES);

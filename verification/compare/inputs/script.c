@@ -3,7 +3,7 @@
 #include <stdlib.h>
 #include <string.h>
 
-enum { PRINTED = 126 }; /* the contents and bodies of a settings image */
+enum { PRINTED = 198 }; /* the contents and bodies of a settings image */
 
 void give_data(struct step *step, const uint8_t *bytes, size_t count)
 {
@@ -65,6 +65,10 @@ void print_step(FILE *out, const struct step *step)
     case CALL_WRITE:
         fprintf(out, "settings write: image %zu, fields ", step->settings_size);
         print_bytes(out, step);
+        break;
+    case CALL_TO_2:
+    case CALL_TO_1:
+        fprintf(out, "move to form %d: image %zu\n", step->kind == CALL_TO_2 ? 2 : 1, step->settings_size);
         break;
     case CALL_RATE:
         fprintf(out, "rate: id %u\n", number);

@@ -17,6 +17,8 @@ enum step_kind {
     CALL_SESSION, /* `number` is the wait, `data` the packet */
     CALL_READ,    /* the settings reader, on the settings flash */
     CALL_WRITE,   /* the settings writer, from fields `data` to the settings flash */
+    CALL_TO_2,    /* the moves, on the settings flash */
+    CALL_TO_1,
     CALL_RATE     /* `number` is the id */
 };
 

@@ -51,8 +51,8 @@ static size_t mostly(struct dice *dice, size_t right, const size_t *wrong, uint3
 
 static size_t choose_settings_size(struct dice *dice)
 {
-    static const size_t wrong[] = {0, 1, 126, 1020, 1023, 1025, 2048};
-    return mostly(dice, SETTINGS_BYTES, wrong, 7);
+    static const size_t wrong[] = {0, 1, 126, 198, 1020, 1023, 1025, 2048};
+    return mostly(dice, SETTINGS_BYTES, wrong, 8);
 }
 
 static size_t choose_window_size(struct dice *dice)
@@ -69,7 +69,7 @@ static size_t choose_record_size(struct dice *dice)
 
 static size_t choose_fields_size(struct dice *dice)
 {
-    static const size_t wrong[] = {0, 1, 73, 75, 94};
+    static const size_t wrong[] = {0, 1, 74, 138, 139, 141};
     return chance(dice, 85) ? FIELDS_BYTES : ONE_OF(dice, wrong);
 }
 
@@ -123,14 +123,19 @@ static struct step choose_read(struct dice *dice)
 
 static struct step choose_write(struct dice *dice, uint32_t main_size)
 {
-    uint8_t fields[128];
+    uint8_t fields[FIELDS_BYTES + 4];
     struct step step = {.kind = CALL_WRITE, .settings_size = choose_settings_size(dice)};
     noise(dice, fields, sizeof fields);
-    choose_fields(dice, main_size, fields);
-    if (chance(dice, 30))
-        break_fields(dice, fields);
+    choose_contents(dice, main_size, fields);
+    if (chance(dice, 40))
+        break_contents(dice, fields);
     give_data(&step, fields, choose_fields_size(dice));
     return step;
+}
+
+static struct step choose_move(struct dice *dice)
+{
+    return (struct step){.kind = chance(dice, 50) ? CALL_TO_2 : CALL_TO_1, .settings_size = choose_settings_size(dice)};
 }
 
 static struct step choose_rate(struct dice *dice)
@@ -156,13 +161,15 @@ struct step choose_step(struct dice *dice, uint32_t main_size, const struct side
         return choose_read(dice);
     if (which < 9)
         return choose_write(dice, main_size);
-    if (which < 14 || (over && chance(dice, 25)))
+    if (which < 15)
+        return choose_move(dice);
+    if (which < 20 || (over && chance(dice, 25)))
         return choose_settings(dice, main_size);
-    if (which < 18 || (over && chance(dice, 25)))
+    if (which < 24 || (over && chance(dice, 25)))
         return choose_record(dice, main_size);
-    if (which < 20 || over)
+    if (which < 26 || over)
         return choose_start(dice, main_size);
-    if (which == 20)
+    if (which == 26)
         return choose_main(dice, main_size);
     if (which == 21 && chance(dice, 30))
         return choose_window(dice);

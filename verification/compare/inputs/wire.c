@@ -63,17 +63,43 @@ void sign_image(uint8_t *image)
     write32(image + IMAGE_CHECKSUM_AT, crc(image, IMAGE_CHECKSUM_AT));
 }
 
+int is_form_2(const uint8_t *image)
+{
+    return read16(image) == 2;
+}
+
+size_t fields_at(const uint8_t *image)
+{
+    return is_form_2(image) ? FIELDS_AT_2 : FIELDS_AT_1;
+}
+
+static const uint8_t table_1[FIELDS_AT_1] = {1, 0, 6,   0,              /* form, count */
+                                             1, 0, 52,  0, 32, 0, 0, 0, /* password */
+                                             2, 0, 84,  0, 16, 0, 0, 0, /* reset password */
+                                             3, 0, 100, 0, 6,  0, 0, 0, /* modes */
+                                             4, 0, 106, 0, 8,  0, 0, 0, /* ids */
+                                             5, 0, 114, 0, 4,  0, 0, 0, /* version pointer */
+                                             6, 0, 118, 0, 8,  0, 0, 0 /* protection */};
+
+static const uint8_t table_2[FIELDS_AT_2] = {2, 0, 7,   0,              /* form, count */
+                                             1, 0, 60,  0, 32, 0, 0, 0, /* as in form 1, 8 bytes on */
+                                             2, 0, 92,  0, 16, 0, 0, 0, /**/
+                                             3, 0, 108, 0, 6,  0, 0, 0, /**/
+                                             4, 0, 114, 0, 8,  0, 0, 0, /**/
+                                             5, 0, 122, 0, 4,  0, 0, 0, /**/
+                                             6, 0, 126, 0, 8,  0, 0, 0, /**/
+                                             7, 0, 134, 0, 64, 0, 0, 0 /* name */};
+
 void make_image(const uint8_t *fields, uint8_t *image)
 {
-    static const uint8_t contents[IMAGE_FIELDS_AT] = {1, 0, 6,   0,              /* form, count */
-                                                      1, 0, 52,  0, 32, 0, 0, 0, /* password */
-                                                      2, 0, 84,  0, 16, 0, 0, 0, /* reset password */
-                                                      3, 0, 100, 0, 6,  0, 0, 0, /* modes */
-                                                      4, 0, 106, 0, 8,  0, 0, 0, /* ids */
-                                                      5, 0, 114, 0, 4,  0, 0, 0, /* version pointer */
-                                                      6, 0, 118, 0, 8,  0, 0, 0 /* protection */};
     memset(image, 0xFF, SETTINGS_BYTES);
-    memcpy(image, contents, sizeof contents);
-    memcpy(image + IMAGE_FIELDS_AT, fields, FIELDS_BYTES);
+    if (read16(fields + FORM_AT) == 2) {
+        memcpy(image, table_2, sizeof table_2);
+        memcpy(image + FIELDS_AT_2, fields, KEPT_BYTES);
+        memcpy(image + IMAGE_NAME_AT, fields + NAME_AT, NAME_BYTES);
+    } else {
+        memcpy(image, table_1, sizeof table_1);
+        memcpy(image + FIELDS_AT_1, fields, KEPT_BYTES);
+    }
     sign_image(image);
 }

@@ -15,7 +15,7 @@
 enum { SECTOR = 1024, MAIN_LARGEST = 65536, SETTINGS_BYTES = 1024, CORE_LARGEST = 1721, REPLY_LEAST = 1729 };
 enum { WINDOW_BYTES = 3456 };
 
-/* Fields: bytes 52 to 125 of a settings image. */
+/* Fields: the first six bodies of a settings image, of which a record has a copy, then the name and the form. */
 enum {
     PASSWORD_AT = 0,
     RESET_PASSWORD_AT = 32,
@@ -27,7 +27,11 @@ enum {
     IDS_AT = 54,
     POINTER_AT = 62,
     PROTECTION_AT = 66,
-    FIELDS_BYTES = 74
+    KEPT_BYTES = 74,
+    NAME_AT = 74,
+    NAME_BYTES = 64,
+    FORM_AT = 138,
+    FIELDS_BYTES = 140
 };
 
 /* A record. */
@@ -46,8 +50,9 @@ enum {
 
 enum { PHASE_DETECT, PHASE_COMMAND, PHASE_STANDBY, PHASE_ENDED, PHASE_DISABLED };
 
-/* A settings image. */
-enum { IMAGE_ENTRIES_AT = 4, IMAGE_FIELDS_AT = 52, IMAGE_FILLER_AT = 126, IMAGE_CHECKSUM_AT = 1020 };
+/* A settings image. The places that the two forms have apart come first for form 1, then for form 2. */
+enum { IMAGE_ENTRIES_AT = 4, IMAGE_CHECKSUM_AT = 1020, IMAGE_NAME_AT = 134 };
+enum { FIELDS_AT_1 = 52, FIELDS_AT_2 = 60, FILLER_AT_1 = 126, FILLER_AT_2 = 198 };
 
 enum { COMMANDS = 12 };
 extern const uint8_t command_codes[COMMANDS];
@@ -63,8 +68,12 @@ uint32_t crc(const uint8_t *bytes, size_t count);
 /* A command packet around a core; its size is returned. */
 size_t frame(const uint8_t *core, size_t length, uint8_t *packet);
 
-/* A settings image around fields, and its checksum anew after a change. */
+/* A settings image around fields, in the form that they name, and its checksum anew after a change. */
 void make_image(const uint8_t *fields, uint8_t *image);
 void sign_image(uint8_t *image);
+
+/* Whether an image says that it is of form 2, and where its bodies begin. */
+int is_form_2(const uint8_t *image);
+size_t fields_at(const uint8_t *image);
 
 #endif

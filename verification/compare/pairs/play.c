@@ -54,13 +54,16 @@ static void choose_pair_protection(struct play *play, uint8_t *fields)
         fields[SETTINGS_PROTECTED_AT] = 1;
 }
 
-/* The settings agree but in the two passwords; of MAIN the version's four bytes alone need agree, of the window none. */
+/*
+ * The settings agree but in the two passwords, in form and in name; of MAIN the version's four bytes alone need agree,
+ * of the window none.
+ */
 static void choose_pair(struct play *play)
 {
     uint8_t fields[FIELDS_BYTES];
     struct pair *pair = &play->pair;
     pair->main_size = SECTOR * (1 + below(&play->dice, PAIR_SECTORS));
-    choose_fields(&play->dice, (uint32_t)pair->main_size, fields);
+    choose_contents(&play->dice, (uint32_t)pair->main_size, fields);
     choose_pair_protection(play, fields);
     noise(&play->dice, pair->one.main, PAIR_MAIN);
     noise(&play->dice, pair->other.main, PAIR_MAIN);
@@ -72,6 +75,7 @@ static void choose_pair(struct play *play)
     make_image(fields, pair->one.settings);
     memcpy(play->passwords[0], fields + PASSWORD_AT, 32);
     noise(&play->dice, fields + PASSWORD_AT, RESET_MODE_AT - PASSWORD_AT);
+    choose_form(&play->dice, fields);
     make_image(fields, pair->other.settings);
     memcpy(play->passwords[1], fields + PASSWORD_AT, 32);
     pair->on = false;
@@ -235,7 +239,7 @@ static void write_settings(struct play *play)
     uint8_t core[5 + SETTINGS_BYTES] = {0x30}, fields[FIELDS_BYTES];
     if (play->pair.one.settings[0] != 0xFF)
         send_core(play, 0, core, 1); /* Factory reset: only what is blank can be programmed */
-    choose_fields(&play->dice, (uint32_t)play->pair.main_size, fields);
+    choose_contents(&play->dice, (uint32_t)play->pair.main_size, fields);
     write16(fields + READOUT_AT, READOUT_ON);
     core[0] = 0x20;
     write32(core + 1, SETTINGS_START);
@@ -273,6 +277,15 @@ static void read_all(struct play *play)
     read_back(play, WINDOW_START);
 }
 
+/* After a strike that erased the settings, flash has a blank board's password, and the session does not. */
+static void guess_public(struct play *play)
+{
+    uint8_t password[32];
+    memset(password, 0xFF, 32);
+    unlock_with(play, password);
+    read_all(play);
+}
+
 static void opening(struct play *play)
 {
     start(play, 0);
@@ -306,6 +319,8 @@ static void play_scene(struct play *play)
         break;
     case 2:
         guessing(play, 3 + (int)below(&play->dice, 2));
+        if (chance(&play->dice, 50))
+            guess_public(play);
         break;
     case 3:
         guessing_cut(play);

@@ -20,19 +20,33 @@
     P(START_10, "", "10") P(START_11, "", "11") P(START_3_AND_11, "", "3 before 11") P(START_11_AND_4, "", "11 before 4 to 8") \
     P(READ_TAKEN, "settings reader, refusal", "none") P(READ_3, "", "3") P(READ_4, "", "4") P(READ_5, "", "5") \
     P(READ_6, "", "6") P(READ_7, "", "7") P(READ_8, "", "8") P(READ_10, "", "10") \
-    P(WRITE_TAKEN, "settings writer, refusal", "none") P(WRITE_3, "", "3") P(WRITE_8, "", "8") P(WRITE_10, "", "10") \
+    P(READ_BLANK, "settings reader, image", "blank") P(READ_FORM_1, "", "form 1") P(READ_FORM_2, "", "form 2") \
+    P(READ_NAMED, "", "form 2 with a name") \
+    P(WRITE_TAKEN, "settings writer, refusal", "none") P(WRITE_3, "", "3") P(WRITE_5, "", "5") P(WRITE_8, "", "8") \
+    P(WRITE_10, "", "10") P(WRITE_41, "", "41") P(WRITE_5_FIRST, "", "5 before 8") P(WRITE_8_FIRST, "", "8 before 41") \
+    P(WRITE_FORM_1, "settings writer, image", "form 1") P(WRITE_FORM_2, "", "form 2") \
+    P(WRITE_NAMED, "", "form 2 with a name") \
+    P(TO_2_MOVED, "move to form 2", "moved") P(TO_2_BLANK, "", "blank") P(TO_2_3, "", "3") P(TO_2_4, "", "4") \
+    P(TO_2_5, "", "5") P(TO_2_6, "", "6") P(TO_2_7, "", "7") P(TO_2_8, "", "8") \
+    P(TO_2_OTHER, "", "5 for a whole image of form 2") \
+    P(TO_1_MOVED, "move to form 1", "moved") P(TO_1_BLANK, "", "blank") P(TO_1_3, "", "3") P(TO_1_4, "", "4") \
+    P(TO_1_5, "", "5") P(TO_1_6, "", "6") P(TO_1_7, "", "7") P(TO_1_8, "", "8") \
+    P(TO_1_OTHER, "", "5 for a whole image of form 1") P(TO_1_41, "", "41") P(TO_1_8_FIRST, "", "8 before 41") \
+    P(PAIR_1_7, "refusal 5, form and count", "1 and 7") P(PAIR_2_6, "", "2 and 6") P(PAIR_OTHER, "", "another pair") \
+    P(FILLER_126, "refusal 7, the one byte", "126 of form 1") P(FILLER_198, "", "198 of form 2") \
+    P(FILLER_LAST, "", "1,019") \
     P(CALL_TAKEN, "session call, refusal", "none") P(CALL_9, "", "9") P(CALL_10, "", "10") \
     P(CALL_11, "", "11") P(CALL_9_AND_11, "", "9 before 11") P(CALL_11_AND_10, "", "11 before 10") \
     P(NO_WINDOW_DETECT, "11 in phase", "detect") P(NO_WINDOW_COMMAND, "", "command") \
     P(NO_WINDOW_STANDBY, "", "standby") P(NO_WINDOW_ENDED, "", "ended") P(NO_WINDOW_DISABLED, "", "disabled") \
     P(WINDOW_SHORT, "window lent", "3,455 bytes") P(WINDOW_LONG, "", "3,457 bytes") \
     P(ENTRY_1, "refusal 6, entry", "1") P(ENTRY_2, "", "2") P(ENTRY_3, "", "3") P(ENTRY_4, "", "4") \
-    P(ENTRY_5, "", "5") P(ENTRY_6, "", "6") P(ENTRY_KIND, "", "kind") P(ENTRY_OFFSET, "", "offset") \
+    P(ENTRY_5, "", "5") P(ENTRY_6, "", "6") P(ENTRY_7, "", "7") P(ENTRY_KIND, "", "kind") P(ENTRY_OFFSET, "", "offset") \
     P(ENTRY_LENGTH, "", "length") P(ENTRY_ZERO, "", "zero") \
     P(FUSE_1, "start", "fuse 1") P(FUSE_256, "", "fuse with low byte 0") P(FUSE_OTHER, "", "fuse of other values") \
     P(START_SMALL, "", "MAIN below 1,024") P(START_LARGE, "", "MAIN above 65,536") \
     P(START_BROKEN, "", "MAIN no multiple") P(START_LEAST, "", "MAIN 1,024") P(START_MOST, "", "MAIN 65,536") \
-    P(START_BLANK, "", "blank image") P(START_WRITTEN, "", "written image") \
+    P(START_BLANK, "", "blank image") P(START_FORM_1, "", "image of form 1") P(START_FORM_2, "", "image of form 2") \
     P(CLAUSE_SHORT, "10, one clause alone", "record area short") P(CLAUSE_LONG, "", "record area long") \
     P(CLAUSE_PHASE, "", "phase byte") P(CLAUSE_LOCK, "", "lock byte") P(CLAUSE_IDLE, "", "idle") \
     P(CLAUSE_SLEEP, "", "sleep") P(CLAUSE_COUNT, "", "wrong count") P(CLAUSE_RATE_0, "", "rate id 0") \

@@ -40,21 +40,63 @@ static bool all_ff(const uint8_t *bytes, size_t count)
 /* Whether a settings image is blank or as the writer makes it of fields. */
 static bool image_accepted(const uint8_t *image)
 {
-    uint8_t right[SETTINGS_BYTES];
-    make_image(image + IMAGE_FIELDS_AT, right);
+    uint8_t right[SETTINGS_BYTES], fields[FIELDS_BYTES];
+    memcpy(fields, image + fields_at(image), KEPT_BYTES);
+    memcpy(fields + NAME_AT, image + IMAGE_NAME_AT, NAME_BYTES);
+    write16(fields + FORM_AT, read16(image));
+    make_image(fields, right);
     return all_ff(image, SETTINGS_BYTES) || memcmp(right, image, SETTINGS_BYTES) == 0;
 }
 
 static void observe_entry(uint64_t answer, const uint8_t *image)
 {
-    uint8_t right[SETTINGS_BYTES];
+    uint8_t right[SETTINGS_BYTES], fields[FIELDS_BYTES] = {0};
     uint32_t entry = (uint32_t)answer;
     uint32_t at = IMAGE_ENTRIES_AT + 8 * (entry - 1);
-    make_image(image + IMAGE_FIELDS_AT, right);
+    write16(fields + FORM_AT, read16(image));
+    make_image(fields, right);
     while (right[at] == image[at])
         at++;
     seen(ENTRY_1 + (int)entry - 1);
     seen(ENTRY_KIND + (int)((at - IMAGE_ENTRIES_AT) % 8 / 2));
+}
+
+static void observe_pair(const uint8_t *image)
+{
+    uint32_t form = read16(image), count = read16(image + 2);
+    seen_if(form == 1 && count == 7, PAIR_1_7);
+    seen_if(form == 2 && count == 6, PAIR_2_6);
+    seen_if(form == 0 || form > 2 || count < 6 || count > 7, PAIR_OTHER);
+}
+
+/* Whether one byte alone is not 0xFF, of those before the checksum. */
+static bool alone(const uint8_t *image, size_t from, size_t at)
+{
+    return all_ff(image + from, at - from) && image[at] != 0xFF && all_ff(image + at + 1, IMAGE_CHECKSUM_AT - at - 1);
+}
+
+static void observe_filler(const uint8_t *image)
+{
+    bool two = is_form_2(image);
+    seen_if(!two && alone(image, FILLER_AT_1, FILLER_AT_1), FILLER_126);
+    seen_if(two && alone(image, FILLER_AT_2, FILLER_AT_2), FILLER_198);
+    seen_if(alone(image, two ? FILLER_AT_2 : FILLER_AT_1, IMAGE_CHECKSUM_AT - 1), FILLER_LAST);
+}
+
+/* What a refusal of 5 to 7 is about. */
+static void observe_image(uint64_t answer, const uint8_t *image)
+{
+    if (refusal_of(answer) == 5)
+        observe_pair(image);
+    if (refusal_of(answer) == 6)
+        observe_entry(answer, image);
+    if (refusal_of(answer) == 7)
+        observe_filler(image);
+}
+
+static bool is_named(const uint8_t *image)
+{
+    return is_form_2(image) && !all_ff(image + IMAGE_NAME_AT, NAME_BYTES);
 }
 
 static void observe_start(const struct sight *sight)
@@ -69,33 +111,68 @@ static void observe_start(const struct sight *sight)
         seen(step->number == 1 ? FUSE_1 : step->number % 256 == 0 ? FUSE_256 : FUSE_OTHER);
     if (refusal == 2)
         seen(size < 1024 ? START_SMALL : size > 65536 ? START_LARGE : START_BROKEN);
-    if (refusal == 6)
-        observe_entry(sight->answer, sight->settings);
+    observe_image(sight->answer, sight->settings);
     if (refusal != 0)
         return;
     seen_if(size == 1024, START_LEAST);
     seen_if(size == 65536, START_MOST);
-    seen(all_ff(sight->settings, SETTINGS_BYTES) ? START_BLANK : START_WRITTEN);
+    if (all_ff(sight->settings, SETTINGS_BYTES))
+        seen(START_BLANK);
+    else
+        seen(is_form_2(sight->settings) ? START_FORM_2 : START_FORM_1);
 }
 
 static void observe_read(const struct sight *sight)
 {
     unsigned refusal = refusal_of(sight->answer);
-    if (refusal == 0)
-        seen(READ_TAKEN);
-    else
+    const uint8_t *image = sight->settings;
+    observe_image(sight->answer, image);
+    if (refusal != 0) {
         seen(refusal == 10 ? READ_10 : READ_3 + (int)refusal - 3);
-    if (refusal == 6)
-        observe_entry(sight->answer, sight->settings);
+        return;
+    }
+    seen(READ_TAKEN);
+    seen_if(is_named(image), READ_NAMED);
+    seen(all_ff(image, SETTINGS_BYTES) ? READ_BLANK : is_form_2(image) ? READ_FORM_2 : READ_FORM_1);
+}
+
+static bool fields_not_allowed(const uint8_t *fields)
+{
+    return fields[RESET_MODE_AT] > 2 || fields[ALERT_AT] > 2 || fields[SETTINGS_PROTECTED_AT] > 1 || fields[ZERO_AT] != 0;
 }
 
 static void observe_write(const struct sight *sight)
 {
     unsigned refusal = refusal_of(sight->answer);
-    seen_if(refusal == 0, WRITE_TAKEN);
+    const uint8_t *fields = sight->step->data;
     seen_if(refusal == 3, WRITE_3);
-    seen_if(refusal == 8, WRITE_8);
     seen_if(refusal == 10, WRITE_10);
+    seen_if(refusal == 5, WRITE_5);
+    seen_if(refusal == 5 && fields_not_allowed(fields), WRITE_5_FIRST);
+    seen_if(refusal == 8, WRITE_8);
+    seen_if(refusal == 8 && read16(fields + FORM_AT) == 1 && !all_ff(fields + NAME_AT, NAME_BYTES), WRITE_8_FIRST);
+    seen_if(refusal == 41, WRITE_41);
+    if (refusal != 0)
+        return;
+    seen(WRITE_TAKEN);
+    seen(is_form_2(sight->settings) ? WRITE_FORM_2 : WRITE_FORM_1);
+    seen_if(is_named(sight->settings), WRITE_NAMED);
+}
+
+/* A move: the points of each stand in the same order, from the one for an image that was moved. A refused image is as it was. */
+static void observe_move(const struct sight *sight, int moved, bool to_2)
+{
+    unsigned refusal = refusal_of(sight->answer);
+    const uint8_t *image = sight->settings;
+    observe_image(sight->answer, image);
+    if (refusal == 0)
+        seen(all_ff(image, SETTINGS_BYTES) ? moved + 1 : moved);
+    else if (refusal == 41)
+        seen(TO_1_41);
+    else
+        seen(moved + 2 + (int)refusal - 3);
+    seen_if(refusal == 5 && read16(image) == (to_2 ? 2 : 1) && read16(image + 2) == (to_2 ? 7 : 6), moved + 8);
+    seen_if(!to_2 && refusal == 8 && is_named(image), TO_1_8_FIRST);
 }
 
 static void observe_rate(uint32_t id)
@@ -737,6 +814,10 @@ void observe(const struct step *step, const struct finding *found, const struct 
         observe_read(&sight);
     if (step->kind == CALL_WRITE)
         observe_write(&sight);
+    if (step->kind == CALL_TO_2)
+        observe_move(&sight, TO_2_MOVED, true);
+    if (step->kind == CALL_TO_1)
+        observe_move(&sight, TO_1_MOVED, false);
     if (step->kind == CALL_RATE)
         observe_rate(step->number);
     if (step->kind == CALL_SESSION)

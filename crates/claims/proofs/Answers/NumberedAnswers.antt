@@ -9,7 +9,9 @@ use Rattle.settings.specs.declared.ReadAnswer.{ReadAnswer}
 use Rattle.settings.specs.declared.ReadAnswer.the-variants as read
 use Rattle.settings.specs.declared.WriteAnswer.{WriteAnswer}
 use Rattle.settings.specs.declared.WriteAnswer.the-variants as write
-use Rattle.settings.specs.Answers.{Numbered, refusalNumbered, readNumbered, writeNumber}
+use Rattle.settings.specs.declared.MoveAnswer.{MoveAnswer}
+use Rattle.settings.specs.declared.MoveAnswer.the-variants as move
+use Rattle.settings.specs.Answers.{Numbered, refusalNumbered, readNumbered, writeNumber, moveNumbered}
 use Rattle.settings.proofs.ReaderLaws.{refuses}
 use Rattle.session.specs.declared.StartAnswer.{StartAnswer}
 use Rattle.session.specs.declared.StartAnswer.the-variants as start
@@ -52,13 +54,36 @@ read-back (read.Refused why) = rw (refuses why, refused-back why)
 -- ---- the settings writer
 
 unfoldable pub writtenBy : ℕ → WriteAnswer
-writtenBy number = pick (eqb number 3) write.SizeWrong (pick (eqb number 8) write.ValueNotAllowed write.Written)
+writtenBy number =
+    pick (eqb number 3) write.SizeWrong (pick (eqb number 8) write.ValueNotAllowed (pick (eqb number 41) write.NameNotEmpty write.Written))
 
 pub written-back : (answer : WriteAnswer) → writtenBy (writeNumber answer) ≡ answer
 unfolding writtenBy pick
 written-back write.Written = refl
 written-back write.SizeWrong = refl
 written-back write.ValueNotAllowed = refl
+written-back write.NameNotEmpty = refl
+
+-- ---- the moves
+
+unfoldable pub movedBy : Numbered → MoveAnswer
+movedBy told = pick (eqb (told .number) 0) move.Moved (pick (eqb (told .number) 41) move.NameNotEmpty (move.Refused (refusedBy told)))
+
+-- a refused image has none of the other numbers
+move-refused-back : (why : Refusal) → movedBy (refusalNumbered why) ≡ move.Refused (refusedBy (refusalNumbered why))
+unfolding movedBy pick
+move-refused-back refusal.SizeWrong = refl
+move-refused-back refusal.ChecksumDiffers = refl
+move-refused-back refusal.FormUnknown = refl
+move-refused-back (refusal.EntryDiffers entry) = refl
+move-refused-back refusal.FillerDiffers = refl
+move-refused-back refusal.ValueNotAllowed = refl
+
+pub moved-back : (answer : MoveAnswer) → movedBy (moveNumbered answer) ≡ answer
+unfolding movedBy pick
+moved-back move.Moved = refl
+moved-back (move.Refused why) = move-refused-back why ∙ ap move.Refused (refused-back why)
+moved-back move.NameNotEmpty = refl
 
 -- ---- start
 

@@ -28,11 +28,14 @@ use Rattle.settings.specs.Values.{isAllowed, blankSettings, noSettings}
 use Rattle.settings.specs.Layout.{form1}
 use Rattle.settings.specs.Bodies.{bodiesOf}
 use Rattle.settings.specs.Fields.{fieldsRead}
+use Rattle.settings.specs.declared.Contents.{Contents}
 use Rattle.settings.specs.declared.WriteAnswer.{WriteAnswer}
+use Rattle.settings.specs.declared.MoveAnswer.{MoveAnswer}
 use Rattle.settings.specs.declared.Refusal.{Refusal}
-use Rattle.settings.specs.Answers.{numbered, refusalNumbered, readTold, writeLeft, writeNumber}
+use Rattle.settings.specs.Answers.{numbered, refusalNumbered, readTold, settingsTold, settingsOnly, writeLeft, writeNumber, MoveLeft, moveLeft, moveNumbered}
 use Rattle.settings.specs.Reader.{readOf}
 use Rattle.settings.specs.Writer.{writeOf}
+use Rattle.settings.specs.Moves.{movedToOne, movedToTwo}
 use Rattle.flash.specs.declared.Region.{Region}
 use Rattle.flash.specs.Regions.{isMainSize, placeOf}
 use Rattle.flash.specs.Memory.{memory, bytesIn}
@@ -55,13 +58,13 @@ use Rattle.session.specs.Calling.{callOf}
 use Rattle.session_in_place.specs.Starting.{startLeft, startInPlace}
 use Rattle.c_records.specs.OneNumber.{refusalOf}
 use Rattle.c_records.specs.Stored.{Stored, stored}
-use Rattle.c_records.specs.SettingsFromC.{readFromC, writeFromC}
+use Rattle.c_records.specs.SettingsFromC.{readFromC, writeFromC, toOneFromC, toTwoFromC}
 use Rattle.c_records.specs.Boundary as rig
 use Rattle.runner_text.specs.Form.{scriptTold, scriptOf, waitIn, packetIn}
 use Rattle.runner_text.specs.Writing.{lineOf, Written, written, writtenOf}
 use Rattle.runner_text.specs.EndLine.{endOf}
 use Rattle.claims.proofs.Answers.OneAnswer.{OneAnswer, given-back, as-said}
-use Rattle.claims.proofs.Answers.NumberedAnswers.{readBy, read-back, writtenBy, written-back, startedBy, started-back, calledBy, called-back, scriptBy, script-back}
+use Rattle.claims.proofs.Answers.NumberedAnswers.{readBy, read-back, writtenBy, written-back, movedBy, moved-back, startedBy, started-back, calledBy, called-back, scriptBy, script-back}
 
 -- ---- octets: bytes read and compared
 
@@ -180,17 +183,33 @@ put-fields-is-one area at settings = as-said (sets area at (bodiesOf settings))
 
 -- ---- settings: the image
 
-pub read-is-one : (image : List ℕ) → OneAnswer (λ r. readTold r ≡ readOf form1 image)
+pub read-is-one : (image : List ℕ) → OneAnswer (λ r. readTold r ≡ readOf image)
 read-is-one image =
-    given-back readTold (λ told. record { answer = readBy (numbered (told .number) (told .entry)); settings = told .settings })
-    (λ r. ap (λ answer. record { answer = answer; settings = r .settings }) (read-back (r .answer)))
-    (readOf form1 image)
+    given-back readTold (λ told. record { answer = readBy (numbered (told .number) (told .entry)); contents = told .contents })
+    (λ r. ap (λ answer. record { answer = answer; contents = r .contents }) (read-back (r .answer)))
+    (readOf image)
 
-pub write-is-one : (settings : Settings) (image : List ℕ) → OneAnswer {A = WriteAnswer × List ℕ} (λ r. writeLeft (writeNumber (r .0)) (r .1) ≡ writeOf form1 settings image)
-write-is-one settings image =
+pub read-settings-is-one : (image : List ℕ) → OneAnswer (λ r. settingsTold r ≡ settingsOnly (readOf image))
+read-settings-is-one image =
+    given-back settingsTold (λ told. record { answer = readBy (numbered (told .number) (told .entry)); settings = told .settings })
+    (λ r. ap (λ answer. record { answer = answer; settings = r .settings }) (read-back (r .answer)))
+    (settingsOnly (readOf image))
+
+pub write-is-one : (contents : Contents) (image : List ℕ) → OneAnswer {A = WriteAnswer × List ℕ} (λ r. writeLeft (writeNumber (r .0)) (r .1) ≡ writeOf contents image)
+write-is-one contents image =
     given-back (λ r. writeLeft (writeNumber (r .0)) (r .1)) (λ l. (writtenBy (l .number), l .image))
     (λ r. ap (λ answer. (answer, r .1)) (written-back (r .0)))
-    (writeOf form1 settings image)
+    (writeOf contents image)
+
+moving-is-one : (value : MoveLeft) → OneAnswer {A = MoveAnswer × List ℕ} (λ r. moveLeft (moveNumbered (r .0)) (r .1) ≡ value)
+moving-is-one =
+    given-back (λ r. moveLeft (moveNumbered (r .0)) (r .1)) (λ l. (movedBy (l .told), l .image)) (λ r. ap (λ answer. (answer, r .1)) (moved-back (r .0)))
+
+pub to-form-1-is-one : (image : List ℕ) → OneAnswer {A = MoveAnswer × List ℕ} (λ r. moveLeft (moveNumbered (r .0)) (r .1) ≡ movedToOne image)
+to-form-1-is-one image = moving-is-one (movedToOne image)
+
+pub to-form-2-is-one : (image : List ℕ) → OneAnswer {A = MoveAnswer × List ℕ} (λ r. moveLeft (moveNumbered (r .0)) (r .1) ≡ movedToTwo image)
+to-form-2-is-one image = moving-is-one (movedToTwo image)
 
 -- ---- flash: regions
 
@@ -308,6 +327,12 @@ read-image-is-one image fields = stored-is-one (readFromC image fields)
 pub write-image-is-one : (fields image : List ℕ) → OneAnswer {A = ℕ × List ℕ} (λ r. stored (r .0) (r .1) ≡ writeFromC fields image)
 write-image-is-one fields image = stored-is-one (writeFromC fields image)
 
+pub move-to-form-1-is-one : (image : List ℕ) → OneAnswer {A = ℕ × List ℕ} (λ r. stored (r .0) (r .1) ≡ toOneFromC image)
+move-to-form-1-is-one image = stored-is-one (toOneFromC image)
+
+pub move-to-form-2-is-one : (image : List ℕ) → OneAnswer {A = ℕ × List ℕ} (λ r. stored (r .0) (r .1) ≡ toTwoFromC image)
+move-to-form-2-is-one image = stored-is-one (toTwoFromC image)
+
 -- ---- c_records: sessions
 
 pub start-record-is-one : (part : Part) (fuse : ℕ) (main settings window area : List ℕ)
@@ -332,6 +357,12 @@ bhorelmu-settings-read-is-one = read-image-is-one
 
 pub bhorelmu-settings-write-is-one : (fields image : List ℕ) → OneAnswer {A = ℕ × List ℕ} (λ r. stored (r .0) (r .1) ≡ writeFromC fields image)
 bhorelmu-settings-write-is-one = write-image-is-one
+
+pub bhorelmu-settings-to-form-2-is-one : (image : List ℕ) → OneAnswer {A = ℕ × List ℕ} (λ r. stored (r .0) (r .1) ≡ toTwoFromC image)
+bhorelmu-settings-to-form-2-is-one = move-to-form-2-is-one
+
+pub bhorelmu-settings-to-form-1-is-one : (image : List ℕ) → OneAnswer {A = ℕ × List ℕ} (λ r. stored (r .0) (r .1) ≡ toOneFromC image)
+bhorelmu-settings-to-form-1-is-one = move-to-form-1-is-one
 
 pub bhorelmu-start-is-one : (fuse : ℕ) (main settings window area : List ℕ)
     → OneAnswer {A = ℕ × List ℕ} (λ r. stored (r .0) (r .1) ≡ rig.startFromC mspm0 fuse main settings window area)

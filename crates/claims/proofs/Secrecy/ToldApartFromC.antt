@@ -17,7 +17,6 @@ use Rattle.session_state.specs.declared.Phase.{Phase}
 use Rattle.session_state.specs.declared.Phase.the-variants.{Detect, Command, Standby, Ended, Disabled}
 use Rattle.session_state.specs.declared.Standing.{Standing}
 use Rattle.session_state.specs.Phases.{isUnlocked}
-use Rattle.settings.specs.Layout.{form1}
 use Rattle.settings.specs.Answers.{numbered}
 use Rattle.settings.specs.Reader.{readOf}
 use Rattle.session.specs.declared.Session.{Session}
@@ -177,9 +176,9 @@ module _ (part : Part) (sound : Sound part) where
 
   -- a start that answers 0 names no entry, and its settings were accepted
   start-accepts : (main settings window : List ℕ) → startOf part false main settings window .answer .number ≡ 0
-      → (startOf part false main settings window .answer ≡ numbered 0 0) × (readOf form1 settings .number ≡ 0)
+      → (startOf part false main settings window .answer ≡ numbered 0 0) × (readOf settings .number ≡ 0)
   start-accepts main settings window =
-      every-start part false main settings window (λ told. (told .answer ≡ numbered 0 0) × (readOf form1 settings .number ≡ 0)) (λ size lent read. (refl, read))
+      every-start part false main settings window (λ told. (told .answer ≡ numbered 0 0) × (readOf settings .number ≡ 0)) (λ size lent read. (refl, read))
 
   module _ (images : Images) (area : List ℕ) (lent : Lent images area) (starts : startOf part false (images .main) (images .settings) (images .window) .answer .number ≡ 0) where
     start-from-C : startedOn part images area ≡ stored 0 (recordOf (started part images .session))
@@ -196,7 +195,7 @@ module _ (part : Part) (sound : Sound part) where
       window = started-has-window part false (images .main) (images .settings) (images .window) starts;
       held =
           rw (started-session part false (images .main) (images .settings) (images .window) starts)
-          (read-is-held (images .settings) (lent .bytes) (start-accepts (images .main) (images .settings) (images .window) starts .1));
+          (read-is-held (images .settings) (lent .bytes) (start-accepts (images .main) (images .settings) (images .window) starts .1) .settings);
     }
 
   -- over any one session from C of two boards of one sound part, at every point of it

@@ -8,28 +8,31 @@ use borrow.Author.Tests.{eq-eqb}
 use lib.Dec.{ltb, eqb}
 use lib.ListN.{length, getD}
 use Rattle.octets.specs.Choice.{pick}
+use Rattle.octets.specs.Number.{numberAt}
 use Rattle.octets.proofs.Searching.{by-pick}
 use Rattle.parts.specs.declared.Part.{Part}
 use Rattle.line.specs.Codes.{replyLimit}
-use Rattle.settings.specs.declared.Settings.{Settings}
-use Rattle.settings.specs.Values.{isAllowed}
-use Rattle.settings.specs.Layout.{form1, imageSize}
-use Rattle.settings.specs.Bodies.{bodiesOf}
-use Rattle.settings.specs.Fields.{fieldsRead}
-use Rattle.settings.specs.Image.{imageOf}
-use Rattle.settings.specs.Answers.{Numbered, numbered, WriteLeft, writeLeft}
+use Rattle.settings.specs.declared.Form.{Form}
+use Rattle.settings.specs.declared.Form.the-variants.{One, Two}
+use Rattle.settings.specs.declared.Forms.{Forms}
+use Rattle.settings.specs.declared.Forms.the-variants.{OnlyOne, OnlyTwo}
+use Rattle.settings.specs.Layout.{imageSize}
+use Rattle.settings.specs.Answers.{Numbered, numbered}
 use Rattle.settings.specs.Reader.{readOf}
-use Rattle.settings.specs.Writer.{writeOf}
+use Rattle.settings.specs.Moves.{moveOf}
+use Rattle.settings.specs.Fields.{zeroAt}
 use Rattle.flash.specs.Memory.{Memory}
 use Rattle.c_records.specs.OneNumber.{refusalUnit, burnUnit, oneNumber, refusal, refusalOf}
 use Rattle.c_records.specs.Stored.{Stored, storedBy}
-use Rattle.settings.specs.FieldsArea.{fieldsAreaSize, zeroAt}
-use Rattle.c_records.specs.SettingsFromC.{readFromC, writeFromC}
+use Rattle.c_records.specs.FieldsArea.{fieldsAreaSize, formAt, fieldsOf, isFormNumber, contentsRead}
+use Rattle.c_records.specs.SettingsFromC.{readFromC, writeFromC, movedFromC, toTwoFromC, toOneFromC}
 use Rattle.session.specs.CallAnswers.{Left}
 use Rattle.session.specs.Calling.{callOf}
 use Rattle.session.proofs.CallLaws.{refused-changes-nothing, call-size-fits}
 use Rattle.c_records.specs.Records.{recordSize, recordOf, sessionIn, isRecordArea}
 use Rattle.c_records.specs.Boundary.{startByFuse, startFromC, Called, called, storedAfter, calledFrom, calledAfter, callFromC}
+use Rattle.claims.proofs.Settings.MovesRule.{writer-keeps, refused-move-keeps}
+use Rattle.claims.proofs.Sessions.NumberRule.{move-is-answered}
 
 -- the top byte of eight is not 0
 abbrev Refused : ℕ → Type 0
@@ -53,26 +56,29 @@ refused-start-keeps part fuse main settings window area =
 
 pub refused-read-keeps : (image area : List ℕ) → Kept area (readFromC image area)
 refused-read-keeps image area =
-    storing-keeps (numbered (readOf form1 image .number) (readOf form1 image .entry)) fieldsAreaSize (bodiesOf (readOf form1 image .settings)) area
+    storing-keeps (numbered (readOf image .number) (readOf image .entry)) fieldsAreaSize (fieldsOf (readOf image .contents)) area
 
--- ---- the settings writer
-
-writer-keeps : (settings : Settings) (area : List ℕ) → (writeOf form1 settings area .number ≡ 0 → ⊥) → writeOf form1 settings area .image ≡ area
-unfolding writeOf
-writer-keeps settings area =
-    by-pick Same (not (eqb (length area) imageSize)) (writeLeft 3 area) _ (λ y h. refl)
-    (λ n. by-pick Same (not (isAllowed (settings .shown))) (writeLeft 8 area) (writeLeft 0 (imageOf form1 settings)) (λ y h. refl) (λ m h. absurd (h refl)))
-  where
-    Same : WriteLeft → Type 0
-    Same left = (left .number ≡ 0 → ⊥) → left .image ≡ area
+-- ---- the settings writer and the moves
 
 pub refused-write-keeps : (fields image : List ℕ) → Kept image (writeFromC fields image)
 unfolding writeFromC pick
 refused-write-keeps fields image =
     by-pick (Kept image) (not (eqb (length image) imageSize)) _ _ (λ y h. refl)
     (λ n. by-pick (Kept image) (not (eqb (length fields) fieldsAreaSize)) _ _ (λ y h. refl)
+    (λ n. by-pick (Kept image) (not (isFormNumber (numberAt formAt 2 fields))) _ _ (λ y h. refl)
     (λ n. by-pick (Kept image) (not (eqb (getD fields zeroAt 0) 0)) _ _ (λ y h. refl)
-    (λ n h. writer-keeps (fieldsRead form1 fields) image (λ e. omega arith))))
+    (λ n h. writer-keeps (contentsRead fields) image (λ e. omega arith)))))
+
+moving-keeps : (from : Forms) (to : Form) (image : List ℕ) → Kept image (movedFromC (moveOf from to image))
+unfolding pick
+moving-keeps from to image h =
+    refused-move-keeps from to image (λ e. absurd (omega (arith, move-is-answered from to image .1)))
+
+pub refused-to-two-keeps : (image : List ℕ) → Kept image (toTwoFromC image)
+refused-to-two-keeps = moving-keeps OnlyOne Two
+
+pub refused-to-one-keeps : (image : List ℕ) → Kept image (toOneFromC image)
+refused-to-one-keeps = moving-keeps OnlyTwo One
 
 -- ---- a call
 

@@ -5,9 +5,9 @@ use mathlib.Core.Bool.{Bool, true, false, true≢false, not}
 use mathlib.Core.List.{List, _∷_}
 use Prim.Native.Nat.{ℕ, _≤_}
 use native.Mathlib.Omega.{arith}
-use borrow.Author.Tests.{le-ltb, eq-eqb, eqb-true, not-false}
+use borrow.Author.Tests.{le-ltb, eq-eqb, eqb-true, eqb-false, not-false}
 use lib.Dec.{eqb}
-use lib.ListN.{length, getD}
+use lib.ListN.{length}
 use Rattle.octets.specs.Choice.{pick}
 use Rattle.octets.proofs.Searching.{pick-false, pick-both, by-pick, by-test}
 use Rattle.parts.specs.declared.Part.{Part}
@@ -26,11 +26,13 @@ use Rattle.session_state.specs.Waits.{passTime}
 use Rattle.session_state.proofs.PhaseLaws.{valid-by-parts, start-is-valid}
 use Rattle.session_state.proofs.WaitLaws.{long-wait-is-heard}
 use Rattle.settings.specs.Values.{isAllowed, blankSettings}
-use Rattle.settings.specs.Layout.{imageSize, form1}
-use Rattle.settings.specs.Entries.{differingEntry}
-use Rattle.settings.specs.Bodies.{bodyIn, shownIn, settingsIn}
-use Rattle.settings.specs.Answers.{ReadTold, numbered}
-use Rattle.settings.specs.Reader.{isBlank, checksumDiffers, formUnknown, fillerDiffers, valueNotAllowed, readWritten, readOf}
+use Rattle.settings.specs.declared.Forms.the-variants.{Both}
+use Rattle.settings.specs.declared.Checked.{Checked}
+use Rattle.settings.specs.declared.Checked.the-variants as checked
+use Rattle.settings.specs.Layout.{imageSize}
+use Rattle.settings.specs.Answers.{numbered}
+use Rattle.settings.specs.Reader.{checkedOf, readAs, readOf}
+use Rattle.settings.proofs.ReaderLaws.{refuses}
 use Rattle.flash.specs.Memory.{Memory}
 use Rattle.session_judge.specs.declared.Effect.{Effect}
 use Rattle.session_judge.specs.declared.Judged.{Judged}
@@ -54,6 +56,8 @@ use Rattle.session.proofs.CallLaws.{every-call}
 use Rattle.octets.proofs.AlikeLaws.{same-are-equal}
 use Rattle.session.proofs.RecordLaws.{record-by-clauses, clauses-make-record}
 use Rattle.claims.specs.TwoBoards.{Carries}
+use Rattle.settings.proofs.PassingLaws as Checks
+use Rattle.settings.proofs.AgainLaws.{read-is-allowed}
 
 module _ (part : Part) where
   -- the comparison finds the password only in a packet that carries it
@@ -162,27 +166,18 @@ module _ (part : Part) where
   unfolding isAllowed pick
   blank-is-allowed = refl
 
+  -- what an accepted image promises
   module _ (image : List ℕ) where
-    -- what an accepted image promises
-    abbrev pub Promise : ReadTold → Type 0
-    Promise told = told .number ≡ 0 → (isAllowed (told .settings .shown) ≡ true) × (length image ≡ imageSize)
+    found-is-allowed : (found : Checked) → Checks.Good Both image found → readAs image found .number ≡ 0
+        → (isAllowed (readAs image found .contents .settings .shown) ≡ true) × (length image ≡ imageSize)
+    unfolding Checks.Good
+    found-is-allowed checked.Blank blank e = (blank-is-allowed, eqb-true _ _ (pick-both _ _ blank .0))
+    found-is-allowed (checked.Written form) good e = (read-is-allowed form image (good .0 .size) (good .0 .value), good .0 .size)
+    found-is-allowed (checked.Refused refusal) good e = absurd (eqb-false _ _ (refuses refusal) e)
 
-    written-promises : length image ≡ imageSize → Promise (readWritten form1 image)
-    unfolding readWritten settingsIn valueNotAllowed
-    written-promises size =
-        by-pick Promise (checksumDiffers image) _ _ (λ y e. absurd (omega arith))
-        (λ n. by-pick Promise (formUnknown form1 image) _ _ (λ y e. absurd (omega arith))
-        (λ n. by-pick Promise (not (eqb (differingEntry form1 image) 0)) _ _ (λ y e. absurd (omega arith))
-        (λ n. by-pick Promise (fillerDiffers form1 image) _ _ (λ y e. absurd (omega arith))
-        (λ n. by-pick Promise (not (pick (isAllowed (shownIn form1 image)) (eqb (getD (bodyIn form1 3 image) 5 0) 0) false)) _ _ (λ y e. absurd (omega arith))
-        (λ n e. (pick-both _ _ (not-false _ n) .0, size))))))
-
-    pub accepted-is-allowed : Promise (readOf form1 image)
+    pub accepted-is-allowed : readOf image .number ≡ 0 → (isAllowed (readOf image .contents .settings .shown) ≡ true) × (length image ≡ imageSize)
     unfolding readOf
-    accepted-is-allowed =
-        by-pick Promise (not (eqb (length image) imageSize)) _ _ (λ y e. absurd (omega arith))
-        (λ n. let size = eqb-true _ _ (not-false _ n) in
-        by-pick Promise (isBlank image) _ _ (λ y e. (blank-is-allowed, size)) (λ n. written-promises size))
+    accepted-is-allowed = found-is-allowed (checkedOf Both image) (Checks.checked-is-good image Both)
 
   -- what stands beside a refused start is refused by every call
   pub no-session-is-refused : (main settings : ℕ) → isRecord part noSession main settings ≡ false
@@ -197,7 +192,7 @@ module _ (part : Part) where
   module _ (fuse : Bool) (main settings window : List ℕ) where
     -- what holds of the session of the settings that are read holds wherever a session is started
     pub every-start : (P : StartTold → Type 0)
-        → (isMainSize part (length main) ≡ true → length window ≡ part .«window_size» → readOf form1 settings .number ≡ 0 → P (startsAs (sessionOf (length main) (readOf form1 settings .settings))))
+        → (isMainSize part (length main) ≡ true → length window ≡ part .«window_size» → readOf settings .number ≡ 0 → P (startsAs (sessionOf (length main) (readOf settings .contents .settings))))
         → startOf part fuse main settings window .answer .number ≡ 0 → P (startOf part fuse main settings window)
     unfolding startOf startRead
     every-start P holds =
@@ -205,7 +200,7 @@ module _ (part : Part) where
         (λ n. by-pick Promised (not (isMainSize part (length main))) _ _ (λ y e. absurd (omega arith))
         (λ sized. by-pick Promised (not (eqb (length settings) imageSize)) _ _ (λ y e. absurd (omega arith))
         (λ n. by-pick Promised (not (eqb (length window) (part .«window_size»))) _ _ (λ y e. absurd (omega arith))
-        (λ lent. by-pick Promised (eqb (readOf form1 settings .number) 0) _ _
+        (λ lent. by-pick Promised (eqb (readOf settings .number) 0) _ _
         (λ y e. holds (not-false _ sized) (eqb-true _ _ (not-false _ lent)) (eqb-true _ _ y))
         (λ n e. absurd (true≢false (sym (eq-eqb _ _ e) ∙ n)))))))
       where
@@ -224,8 +219,8 @@ module _ (part : Part) where
 
     -- 01, Phases and waits: "Settings are taken at start"
     pub started-session : startOf part fuse main settings window .answer .number ≡ 0
-        → startOf part fuse main settings window .session ≡ sessionOf (length main) (readOf form1 settings .settings)
-    started-session = every-start (λ told. told .session ≡ sessionOf (length main) (readOf form1 settings .settings)) (λ size lent read. refl)
+        → startOf part fuse main settings window .session ≡ sessionOf (length main) (readOf settings .contents .settings)
+    started-session = every-start (λ told. told .session ≡ sessionOf (length main) (readOf settings .contents .settings)) (λ size lent read. refl)
 
     -- and its window has the part's size
     pub started-has-window : startOf part fuse main settings window .answer .number ≡ 0 → length window ≡ part .«window_size»

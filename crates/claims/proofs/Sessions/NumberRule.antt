@@ -8,18 +8,29 @@ use native.Mathlib.Omega.{arith}
 use lib.Dec.{ltb, eqb}
 use lib.ListN.{length, getD}
 use Rattle.octets.specs.Choice.{pick}
+use Rattle.octets.specs.Number.{numberAt}
 use Rattle.octets.proofs.Searching.{by-pick}
 use Rattle.parts.specs.declared.Part.{Part}
 use Rattle.line.specs.Codes.{replyLimit, isOneOf}
-use Rattle.settings.specs.declared.Settings.{Settings}
+use Rattle.settings.specs.declared.Form.{Form}
+use Rattle.settings.specs.declared.Form.the-variants.{One, Two}
+use Rattle.settings.specs.declared.Forms.{Forms}
+use Rattle.settings.specs.declared.Forms.the-variants.{Both, OnlyOne, OnlyTwo}
+use Rattle.settings.specs.declared.Found.{Found}
+use Rattle.settings.specs.declared.Found.the-variants.{Known, Unknown}
+use Rattle.settings.specs.declared.Checked.{Checked}
+use Rattle.settings.specs.declared.Checked.the-variants as checked
+use Rattle.settings.specs.declared.Contents.{Contents}
 use Rattle.settings.specs.Values.{isAllowed}
-use Rattle.settings.specs.Layout.{form1, imageSize}
+use Rattle.settings.specs.Layout.{layoutOf, imageSize}
 use Rattle.settings.specs.Entries.{differingEntry}
-use Rattle.settings.specs.Bodies.{bodiesOf}
-use Rattle.settings.specs.Fields.{fieldsRead}
-use Rattle.settings.specs.Answers.{Numbered, numbered, ReadTold, WriteLeft}
-use Rattle.settings.specs.Reader.{isBlank, checksumDiffers, formUnknown, fillerDiffers, valueNotAllowed, readWritten, readOf}
-use Rattle.settings.specs.Writer.{writeOf}
+use Rattle.settings.specs.Bodies.{contentsIn}
+use Rattle.settings.specs.Answers.{Numbered, numbered, refusalNumbered, WriteLeft}
+use Rattle.settings.specs.Reader.{isBlank, checksumDiffers, foundIn, fillerDiffers, valueNotAllowed, checkedIn, checkedFound, checkedWritten, checkedOf, readAs, readOf}
+use Rattle.settings.specs.Writer.{nameFits, writeOf}
+use Rattle.settings.specs.Moves.{inForm, moveAs, moveOf}
+use Rattle.settings.specs.Fields.{zeroAt}
+use Rattle.settings.proofs.LayoutLaws.{count-is-few}
 use Rattle.settings.proofs.ReaderLaws.{differing-entry-there}
 use Rattle.flash.specs.Memory.{Memory}
 use Rattle.flash.specs.Regions.{isMainSize}
@@ -32,20 +43,24 @@ use Rattle.session.specs.Calling.{serveOf, callOf}
 use Rattle.session.proofs.CallLaws.{call-size-fits}
 use Rattle.c_records.specs.OneNumber.{refusalUnit, burnUnit, oneNumber, refusal, refusalOf}
 use Rattle.c_records.specs.Stored.{Stored, storedBy}
-use Rattle.settings.specs.FieldsArea.{fieldsAreaSize, zeroAt}
-use Rattle.c_records.specs.SettingsFromC.{readFromC, writeFromC}
+use Rattle.c_records.specs.FieldsArea.{fieldsAreaSize, formAt, fieldsOf, isFormNumber, contentsRead}
+use Rattle.c_records.specs.SettingsFromC.{readFromC, writeFromC, movedFromC, toTwoFromC, toOneFromC}
 use Rattle.c_records.specs.Records.{recordSize, recordOf, sessionIn, isRecordArea}
 use Rattle.c_records.specs.Boundary.{startByFuse, startFromC, Called, storedAfter, calledFrom, callFromC}
 
 -- ---- the numbers
 
 -- 01, Numbers of refused calls: "Start checks 1-8, the settings reader 3-8, the writer 3 then 8, a session call 9 then 10."; T-05: "11, window not
--- 3,456 bytes, after 3 at start and after 9 in a call"
+-- 3,456 bytes, after 3 at start and after 9 in a call"; T-09: "each move checks as the reader", and "41, a name not all 0xFF on the way back or in form 1
+-- settings to be written, after 8"
 abbrev pub readNumbers : List ℕ
 readNumbers = 0 ∷ 3 ∷ 4 ∷ 5 ∷ 6 ∷ 7 ∷ 8 ∷ []
 
 abbrev pub writeNumbers : List ℕ
-writeNumbers = 0 ∷ 3 ∷ 8 ∷ []
+writeNumbers = 0 ∷ 3 ∷ 8 ∷ 41 ∷ []
+
+abbrev pub moveNumbers : List ℕ
+moveNumbers = 41 ∷ readNumbers
 
 abbrev pub startNumbers : List ℕ
 startNumbers = 1 ∷ 2 ∷ 11 ∷ readNumbers
@@ -64,35 +79,56 @@ one-of-more first numbers number h = by-pick (λ (found : Bool). found ≡ true)
 
 -- a number, and the entry that goes with it
 abbrev Told : List ℕ → ℕ → ℕ → Type 0
-Told numbers number entry = IsOneOf numbers number × (entry ≤ 6)
+Told numbers number entry = IsOneOf numbers number × (entry ≤ 7)
 
 module _ (image : List ℕ) where
-  abbrev ReadWell : ReadTold → Type 0
-  ReadWell told = Told readNumbers (told .number) (told .entry)
+  abbrev ReadWell : Checked → Type 0
+  ReadWell found = Told readNumbers (readAs image found .number) (readAs image found .entry)
 
-  written-is-answered : ReadWell (readWritten form1 image)
-  unfolding readWritten isOneOf pick
-  written-is-answered =
-      by-pick ReadWell (checksumDiffers image) _ _ (λ y. (refl, omega arith))
-      (λ n. by-pick ReadWell (formUnknown form1 image) _ _ (λ y. (refl, omega arith))
-      (λ n. by-pick ReadWell (not (eqb (differingEntry form1 image) 0)) _ _ (λ y. (refl, differing-entry-there form1 image))
-      (λ n. by-pick ReadWell (fillerDiffers form1 image) _ _ (λ y. (refl, omega arith))
-      (λ n. by-pick ReadWell (valueNotAllowed form1 image) _ _ (λ y. (refl, omega arith)) (λ n. (refl, omega arith))))))
+  form-is-answered : (found : Found) → ReadWell (checkedFound image found)
+  unfolding checkedIn isOneOf pick
+  form-is-answered (Known form) =
+      by-pick ReadWell (not (eqb (differingEntry (layoutOf form) image) 0)) _ _
+      (λ y. (refl, omega (arith, differing-entry-there (layoutOf form) image, count-is-few form)))
+      (λ n. by-pick ReadWell (fillerDiffers form image) _ _ (λ y. (refl, omega arith))
+      (λ n. by-pick ReadWell (valueNotAllowed form image) _ _ (λ y. (refl, omega arith)) (λ n. (refl, omega arith))))
+  form-is-answered Unknown = (refl, omega arith)
 
-  pub read-is-answered : Told readNumbers (readOf form1 image .number) (readOf form1 image .entry)
-  unfolding readOf isOneOf pick
-  read-is-answered =
+  check-is-answered : (forms : Forms) → ReadWell (checkedOf forms image)
+  unfolding checkedOf checkedWritten isOneOf pick
+  check-is-answered forms =
       by-pick ReadWell (not (eqb (length image) imageSize)) _ _ (λ y. (refl, omega arith))
-      (λ n. by-pick ReadWell (isBlank image) _ _ (λ y. (refl, omega arith)) (λ n. written-is-answered))
+      (λ n. by-pick ReadWell (isBlank image) _ _ (λ y. (refl, omega arith))
+      (λ n. by-pick ReadWell (checksumDiffers image) _ _ (λ y. (refl, omega arith)) (λ n. form-is-answered (foundIn forms image))))
 
-pub write-is-answered : (settings : Settings) (area : List ℕ) → IsOneOf writeNumbers (writeOf form1 settings area .number)
-unfolding writeOf isOneOf pick
-write-is-answered settings area =
-    by-pick Well (not (eqb (length area) imageSize)) _ _ (λ y. refl)
-    (λ n. by-pick Well (not (isAllowed (settings .shown))) _ _ (λ y. refl) (λ n. refl))
+  pub read-is-answered : Told readNumbers (readOf image .number) (readOf image .entry)
+  unfolding readOf
+  read-is-answered = check-is-answered Both
+
+-- what can be said of each answer of the writer
+every-write : (contents : Contents) (area : List ℕ) (numbers : List ℕ) → IsOneOf numbers 0 → IsOneOf numbers 3 → IsOneOf numbers 8 → IsOneOf numbers 41
+    → IsOneOf numbers (writeOf contents area .number)
+unfolding writeOf
+every-write contents area numbers zero three eight name =
+    by-pick Well (not (eqb (length area) imageSize)) _ _ (λ y. three)
+    (λ n. by-pick Well (not (isAllowed (contents .settings .shown))) _ _ (λ y. eight)
+    (λ n. by-pick Well (not (nameFits (contents .form) (contents .name))) _ _ (λ y. name) (λ n. zero)))
   where
     Well : WriteLeft → Type 0
-    Well left = IsOneOf writeNumbers (left .number)
+    Well left = IsOneOf numbers (left .number)
+
+pub write-is-answered : (contents : Contents) (area : List ℕ) → IsOneOf writeNumbers (writeOf contents area .number)
+unfolding isOneOf pick
+write-is-answered contents area = every-write contents area writeNumbers refl refl refl refl
+
+pub move-is-answered : (from : Forms) (to : Form) (image : List ℕ) → Told moveNumbers (moveOf from to image .told .number) (moveOf from to image .told .entry)
+unfolding moveOf isOneOf pick
+move-is-answered from to image = as-found (checkedOf from image) (check-is-answered image from)
+  where
+    as-found : (found : Checked) → ReadWell image found → Told moveNumbers (moveAs to image found .told .number) (moveAs to image found .told .entry)
+    as-found checked.Blank well = (refl, omega arith)
+    as-found (checked.Written form) well = (every-write (inForm to (contentsIn form image)) image moveNumbers refl refl refl refl, omega arith)
+    as-found (checked.Refused why) well = (one-of-more 41 readNumbers (refusalNumbered why .number) (well .0), well .1)
 
 module _ (part : Part) (fuse : Bool) (main settings window : List ℕ) where
   abbrev StartWell : StartTold → Type 0
@@ -102,12 +138,12 @@ module _ (part : Part) (fuse : Bool) (main settings window : List ℕ) where
   unfolding startOf startRead isOneOf pick
   start-is-answered =
       let read = read-is-answered settings in
-      let number = readOf form1 settings .number in
+      let number = readOf settings .number in
       by-pick StartWell fuse _ _ (λ y. (refl, omega arith))
       (λ n. by-pick StartWell (not (isMainSize part (length main))) _ _ (λ y. (refl, omega arith))
       (λ n. by-pick StartWell (not (eqb (length settings) imageSize)) _ _ (λ y. (refl, omega arith))
       (λ n. by-pick StartWell (not (eqb (length window) (part .«window_size»))) _ _ (λ y. (refl, omega arith))
-      (λ n. by-pick StartWell (eqb (readOf form1 settings .number) 0) _ _ (λ y. (refl, omega arith))
+      (λ n. by-pick StartWell (eqb (readOf settings .number) 0) _ _ (λ y. (refl, omega arith))
       (λ n. (one-of-more 1 (2 ∷ 11 ∷ readNumbers) number (one-of-more 2 (11 ∷ readNumbers) number (one-of-more 11 readNumbers number (read .0))), read .1))))))
 
 module _ (part : Part) (session : Session) (before : Memory) (wait : ℕ) (packet area : List ℕ) where
@@ -127,7 +163,7 @@ module _ (part : Part) (session : Session) (before : Memory) (wait : ℕ) (packe
 abbrev pub refusalIn : ℕ → ℕ
 refusalIn answer = answer / refusalUnit
 
-refusal-is : (told : Numbered) → told .entry ≤ 6 → refusalIn (refusalOf told) ≡ told .number
+refusal-is : (told : Numbered) → told .entry ≤ 7 → refusalIn (refusalOf told) ≡ told .number
 unfolding pick
 refusal-is told small = omega arith
 
@@ -156,23 +192,36 @@ start-is-answered-from-C part fuse main settings window area =
 pub read-is-answered-from-C : (image area : List ℕ) → IsOneOf (10 ∷ readNumbers) (refusalIn (readFromC image area .answer))
 unfolding isOneOf pick
 read-is-answered-from-C image area =
-    storing-is-answered readNumbers (numbered (readOf form1 image .number) (readOf form1 image .entry)) fieldsAreaSize (bodiesOf (readOf form1 image .settings)) area refl
+    storing-is-answered readNumbers (numbered (readOf image .number) (readOf image .entry)) fieldsAreaSize (fieldsOf (readOf image .contents)) area refl
     (read-is-answered image)
 
-pub write-is-answered-from-C : (fields image : List ℕ) → IsOneOf (10 ∷ writeNumbers) (refusalIn (writeFromC fields image .answer))
+pub write-is-answered-from-C : (fields image : List ℕ) → IsOneOf (5 ∷ 10 ∷ writeNumbers) (refusalIn (writeFromC fields image .answer))
 unfolding writeFromC isOneOf pick
 write-is-answered-from-C fields image =
     by-pick Well (not (eqb (length image) imageSize)) _ _ (λ y. refl)
     (λ n. by-pick Well (not (eqb (length fields) fieldsAreaSize)) _ _ (λ y. refl)
+    (λ n. by-pick Well (not (isFormNumber (numberAt formAt 2 fields))) _ _ (λ y. refl)
     (λ n. by-pick Well (not (eqb (getD fields zeroAt 0) 0)) _ _ (λ y. refl)
-    (λ n. one-of-more 10 writeNumbers (refusalIn (refusal written))
-    (subst (IsOneOf writeNumbers) (sym (refusal-is (numbered written 0) (omega arith))) (write-is-answered (fieldsRead form1 fields) image)))))
+    (λ n. subst (IsOneOf (5 ∷ 10 ∷ writeNumbers)) (sym (refusal-is (numbered written 0) (omega arith)))
+    (every-write (contentsRead fields) image (5 ∷ 10 ∷ writeNumbers) refl refl refl refl)))))
   where
     Well : Stored → Type 0
-    Well left = IsOneOf (10 ∷ writeNumbers) (refusalIn (left .answer))
+    Well left = IsOneOf (5 ∷ 10 ∷ writeNumbers) (refusalIn (left .answer))
 
     written : ℕ
-    written = writeOf form1 (fieldsRead form1 fields) image .number
+    written = writeOf (contentsRead fields) image .number
+
+-- a move from C has the number of the move
+moved-says : (from : Forms) (to : Form) (image : List ℕ) → IsOneOf moveNumbers (refusalIn (movedFromC (moveOf from to image) .answer))
+moved-says from to image =
+    let well = move-is-answered from to image in
+    subst (IsOneOf moveNumbers) (sym (refusal-is (moveOf from to image .told) (well .1))) (well .0)
+
+pub to-two-is-answered-from-C : (image : List ℕ) → IsOneOf moveNumbers (refusalIn (toTwoFromC image .answer))
+to-two-is-answered-from-C = moved-says OnlyOne Two
+
+pub to-one-is-answered-from-C : (image : List ℕ) → IsOneOf moveNumbers (refusalIn (toOneFromC image .answer))
+to-one-is-answered-from-C = moved-says OnlyTwo One
 
 module _ (part : Part) (area : List ℕ) (before : Memory) (wait : ℕ) (packet reply : List ℕ) where
   abbrev left : Left

@@ -15,11 +15,12 @@ use Rattle.octets.specs.Number.{bytesOf, numberAt}
 use Rattle.octets.proofs.Numbers.{number-of-bytes}
 use Rattle.session_state.specs.declared.Phase.{Phase}
 use Rattle.session_state.specs.declared.Phase.the-variants.{Detect, Command, Standby, Ended, Disabled}
-use Rattle.settings.specs.Layout.{form1, lengthOf, offsetOf, sumOf, tableEnd}
+use Rattle.settings.specs.Layout.{form1, form2, lengthOf, offsetOf, sumOf, tableEnd}
 use Rattle.settings.specs.Bodies.{bodiesOf}
 use Rattle.settings.specs.Fields as fields
+use Rattle.settings.specs.Fields.{keptSize, zeroAt}
 use Rattle.session.specs.declared.Session.{Session}
-use Rattle.settings.specs.FieldsArea.{fieldsAreaSize, zeroAt}
+use Rattle.c_records.specs.FieldsArea.{fieldsAreaSize, nameAt, formAt}
 use Rattle.c_records.specs.Records.{recordSize, fieldsAt, phaseCode, lockCode, sleepOf, recordOf, phaseIn, standingIn, sessionIn, phaseFits, isRecordArea}
 use Rattle.c_records.proofs.RecordAgain.{encode-after-decode}
 use Rattle.claims.specs.Held.{HeldSession}
@@ -94,8 +95,8 @@ one-area one other each each₂ known known₂ e =
 
 -- ---- the numbers of the record's layout, from those of the image's
 
--- the fields are the bodies
-pub fields-are-bodies : fieldsAreaSize ≡ fields.fieldsSize form1
+-- the fields of a record are the six bodies
+pub fields-are-bodies : keptSize ≡ fields.fieldsSize form1
 unfolding offsetOf sumOf
 fields-are-bodies = refl
 
@@ -104,5 +105,9 @@ pub zero-ends-body-3 : zeroAt + 1 ≡ offsetOf form1 3 - tableEnd form1 + length
 unfolding offsetOf sumOf
 zero-ends-body-3 = refl
 
-pub record-ends-with-fields : recordSize ≡ fieldsAt + fieldsAreaSize
+pub record-ends-with-fields : recordSize ≡ fieldsAt + keptSize
 record-ends-with-fields = refl
+
+-- the fields of an image are those of a record, then the name and the form's number
+pub fields-go-on : (nameAt ≡ keptSize) × (formAt ≡ nameAt + lengthOf form2 7) × (fieldsAreaSize ≡ formAt + 2)
+fields-go-on = (refl, refl, refl)

@@ -1,8 +1,8 @@
 -- What the reader's tests say of an accepted image: its parts are those that the writer would put there.
-use mathlib.Core.Path.{_≡_, sym}
+use mathlib.Core.Path.{_≡_, refl, sym}
 use mathlib.Core.Bool.{true, false, true≢false}
-use mathlib.Core.List.{List}
-use Prim.Native.Nat.{ℕ, zero, suc, _+_, _*_, _/_, _%_, _≤_, _<_}
+use mathlib.Core.List.{List, _++_}
+use Prim.Native.Nat.{ℕ, zero, suc, _+_, _-_, _*_, _/_, _%_, _≤_, _<_}
 use native.Mathlib.Omega.{arith}
 use borrow.Author.Tests.{eqb-true, not-false}
 use lib.Dec.{eqb}
@@ -12,63 +12,86 @@ use Rattle.octets.specs.Number.{part, numberAt}
 use Rattle.octets.specs.Alike.{allAre}
 use Rattle.octets.proofs.Parts.{length-part, parts-join}
 use Rattle.octets.proofs.Searching.{pick-both, none-passes}
-use Rattle.octets.proofs.AlikeLaws.{all-are-replicate}
+use Rattle.octets.proofs.AlikeLaws.{all-are-replicate, replicate-all-are}
 use Rattle.checksum.specs.Checksum.{checksumOf}
-use Rattle.settings.specs.Layout.{form1, offsetOf, sumOf, tableOf, placeOf, pairsOf}
-use Rattle.settings.specs.Table.{filler-from-126}
+use Rattle.settings.specs.declared.Form.{Form}
+use Rattle.settings.specs.declared.Form.the-variants.{One, Two}
+use Rattle.settings.specs.Layout.{layoutOf, countOf, offsetOf, sumOf, tableOf, placeOf, pairsOf}
+use Rattle.settings.specs.Table.{bodiesAt, table-ends, fillerAt, bodies-end}
 use Rattle.settings.specs.Entries.{fieldDiffers, entryDiffers, differingEntry}
-use Rattle.settings.proofs.TableLaws.{length-table}
-use Rattle.settings.specs.Bodies.{bodiesOf, settingsIn}
+use Rattle.settings.specs.Values.{noName}
+use Rattle.settings.specs.Bodies.{nameBody, nameIn, contentsIn}
 use Rattle.settings.specs.Image.{fillerOf, frontOf, imageOf}
-use Rattle.settings.specs.Reader.{checksumDiffers, formUnknown, fillerDiffers, valueNotAllowed}
+use Rattle.settings.specs.Reader.{checksumDiffers, isForm, fillerDiffers}
+use Rattle.settings.specs.Writer.{nameFits}
+use Rattle.settings.proofs.TableLaws.{length-table}
+use Rattle.settings.proofs.BodyLaws.{bodies-begin}
+use Rattle.settings.proofs.WriterLaws.{filler-there}
+use Rattle.settings.proofs.AgainLaws.{number-again, bodies-made-again}
 use Rattle.claims.proofs.Settings.Pairs.{pairs-read}
-use Rattle.settings.proofs.AgainLaws.{number-again, bodies-again}
+use Rattle.settings.proofs.PassingLaws.{Passed}
 
-module _ (image : List ℕ) (size : length image ≡ 1024) (each : (k : ℕ) → getD image k 0 < 256)
-    (checksum : checksumDiffers image ≡ false)
-    (form : formUnknown form1 image ≡ false)
-    (entries : differingEntry form1 image ≡ 0)
-    (filler : fillerDiffers form1 image ≡ false)
-    (value : valueNotAllowed form1 image ≡ false) where
-  form-and-count : (eqb (numberAt 0 2 image) 1 ≡ true) × (eqb (numberAt 2 2 image) 6 ≡ true)
-  unfolding formUnknown
-  form-and-count = pick-both _ _ (not-false _ form)
+-- ---- form by form
 
-  field-same : (n f : ℕ) → 1 ≤ n → n < 7 → f < 4 → numberAt (2 * placeOf n f) 2 image ≡ getD (tableOf form1) (placeOf n f) 0
+-- the bodies of an image, and the image of its pieces
+module _ (image : List ℕ) where
+  bodies-joined : (form : Form) → part (bodiesAt form) 74 image ++ nameBody form (nameIn form image) ≡ part (bodiesAt form) (fillerAt form - bodiesAt form) image
+  unfolding offsetOf sumOf
+  bodies-joined One = parts-join 52 74 0 image
+  bodies-joined Two = parts-join 60 74 64 image
+
+  pieces-joined : (form : Form)
+      → part 0 (bodiesAt form) image ++ (part (bodiesAt form) (fillerAt form - bodiesAt form) image ++ part (fillerAt form) (1020 - fillerAt form) image)
+      ≡ part 0 1020 image
+  pieces-joined One = rw (parts-join 52 74 894 image, parts-join 0 52 968 image)
+  pieces-joined Two = rw (parts-join 60 138 822 image, parts-join 0 60 960 image)
+
+  -- the name that is read fits the form
+  pub read-name-fits : (form : Form) → nameFits form (nameIn form image) ≡ true
+  unfolding nameFits noName
+  read-name-fits One = replicate-all-are 0xFF 64
+  read-name-fits Two = refl
+
+module _ (form : Form) (image : List ℕ) (passed : Passed form image) (each : (k : ℕ) → getD image k 0 < 256) where
+  abbrev table : List ℕ
+  table = tableOf (layoutOf form)
+
+  form-and-count : (eqb (numberAt 0 2 image) (layoutOf form .form) ≡ true) × (eqb (numberAt 2 2 image) (countOf (layoutOf form)) ≡ true)
+  unfolding isForm
+  form-and-count = pick-both _ _ (passed .known)
+
+  field-same : (n f : ℕ) → 1 ≤ n → n < 1 + countOf (layoutOf form) → f < 4 → numberAt (2 * placeOf n f) 2 image ≡ getD table (placeOf n f) 0
   unfolding differingEntry entryDiffers fieldDiffers
   field-same n f l u h =
-      eqb-true _ _ (not-false _ (none-passes (λ k. true) false (fieldDiffers form1 image n) 0 4 (λ k b e. true≢false e) (none-passes (λ k. k) 0 (entryDiffers form1 image) 1 6 (λ k b e. omega arith) entries n l u) f (omega arith) (omega arith)))
+      eqb-true _ _ (not-false _ (none-passes (λ k. true) false (fieldDiffers (layoutOf form) image n) 0 4 (λ k b e. true≢false e)
+      (none-passes (λ k. k) 0 (entryDiffers (layoutOf form) image) 1 (countOf (layoutOf form)) (λ k b e. omega arith) (passed .entries) n l u) f (omega arith) (omega arith)))
 
-  table-same : (i : ℕ) → i < length (tableOf form1) → numberAt (2 * i) 2 image ≡ getD (tableOf form1) i 0
+  table-same : (i : ℕ) → i < length table → numberAt (2 * i) 2 image ≡ getD table i 0
   unfolding tableOf
   table-same zero h = eqb-true _ _ (form-and-count .0)
   table-same (suc zero) h = eqb-true _ _ (form-and-count .1)
   table-same (suc (suc i)) h =
       let e : placeOf (1 + i / 4) (i % 4) ≡ suc (suc i) = omega arith in
-      rw e at (field-same (1 + i / 4) (i % 4) (omega arith) (omega (arith, length-table form1)) (omega arith))
+      rw e at (field-same (1 + i / 4) (i % 4) (omega arith) (omega (arith, length-table (layoutOf form))) (omega arith))
 
-  table-there : pairsOf (tableOf form1) ≡ part 0 52 image
+  table-there : pairsOf table ≡ part 0 (bodiesAt form) image
   table-there =
-      let n : 2 * length (tableOf form1) ≡ 52 = omega (arith, length-table form1) in
-      sym (rw n at (pairs-read (tableOf form1) image (omega arith) each table-same))
+      let n : 2 * length table ≡ bodiesAt form = omega (arith, length-table (layoutOf form), table-ends form) in
+      sym (rw n at (pairs-read table image (omega (arith, n, bodies-begin form, passed .size)) each table-same))
 
-  bodies-there : bodiesOf (settingsIn form1 image) ≡ part 52 74 image
-  unfolding valueNotAllowed offsetOf sumOf
-  bodies-there = bodies-again image each (omega arith) (eqb-true _ _ (pick-both _ _ (not-false _ value) .1))
-
-  filler-there : fillerOf form1 ≡ part 126 894 image
+  filler-is-there : fillerOf form ≡ part (fillerAt form) (1020 - fillerAt form) image
   unfolding fillerDiffers
-  filler-there =
-      let all : allAre 255 (part 126 894 image) ≡ true = not-false _ (rw filler-from-126 at filler) in
-      let n : length (part 126 894 image) ≡ 894 = length-part 126 894 image (omega arith) in
-      rw filler-from-126 (sym (rw n at (all-are-replicate 255 (part 126 894 image) all)))
+  filler-is-there =
+      let all : allAre 255 (part (fillerAt form) (1020 - fillerAt form) image) ≡ true = not-false _ (rw (bodies-end form) at (passed .filler)) in
+      let n : length (part (fillerAt form) (1020 - fillerAt form) image) ≡ 1020 - fillerAt form =
+      length-part (fillerAt form) (1020 - fillerAt form) image (omega (arith, passed .size, filler-there form .1)) in
+      rw (bodies-end form) (sym (rw n at (all-are-replicate 255 (part (fillerAt form) (1020 - fillerAt form) image) all)))
 
-  front-there : frontOf form1 (settingsIn form1 image) ≡ part 0 1020 image
-  front-there =
-      rw (table-there, bodies-there, filler-there, parts-join 52 74 894 image, parts-join 0 52 968 image)
+  front-there : frontOf (contentsIn form image) ≡ part 0 1020 image
+  front-there = rw (table-there, bodies-made-again form image (passed .size) (passed .value) each, bodies-joined image form, filler-is-there, pieces-joined image form)
 
-  pub written-again : imageOf form1 (settingsIn form1 image) ≡ image
+  pub written-again : imageOf (contentsIn form image) ≡ image
   unfolding imageOf checksumDiffers
   written-again =
-      let sum : numberAt 1020 4 image ≡ checksumOf (take 1020 image) = eqb-true _ _ (not-false _ checksum) in
-      rw (front-there, ← sum, number-again image each 1020 4 (omega arith), parts-join 0 1020 4 image) (take-all 1024 image (omega arith))
+      let sum : numberAt 1020 4 image ≡ checksumOf (take 1020 image) = eqb-true _ _ (not-false _ (passed .checksum)) in
+      rw (front-there, ← sum, number-again image each 1020 4 (omega (arith, passed .size)), parts-join 0 1020 4 image) (take-all 1024 image (omega (arith, passed .size)))

@@ -1,23 +1,30 @@
 -- Settings that are read of bytes can be held by a struct of the code.
-use mathlib.Core.Path.{_≡_}
-use mathlib.Core.Bool.{not}
-use mathlib.Core.List.{List}
+use mathlib.Core.Path.{_≡_, refl, subst}
+use mathlib.Core.List.{List, _++_}
 use Prim.Native.Nat.{ℕ, _+_, _^_, _≤_, _<_}
 use native.Mathlib.Omega.{arith}
-use borrow.Author.Tests.{eqb-true, not-false}
-use lib.Dec.{eqb}
-use lib.ListN.{length, getD}
+use borrow.Author.Tests.{eq-eqb, eqb-false}
+use lib.ListN.{length, getD, replicate, length-append}
 use Rattle.octets.specs.Number.{part, numberAt}
 use Rattle.octets.proofs.Numbers.{number-fits}
-use Rattle.octets.proofs.Parts.{length-part, each-part}
-use Rattle.octets.proofs.Searching.{by-pick}
+use Rattle.octets.proofs.Parts.{length-part, each-part, each-append, each-replicate}
+use Rattle.octets.proofs.Searching.{pick-true}
+use Rattle.settings.specs.declared.Form.{Form}
+use Rattle.settings.specs.declared.Form.the-variants.{One, Two}
+use Rattle.settings.specs.declared.Forms.the-variants.{Both}
+use Rattle.settings.specs.declared.Checked.{Checked}
+use Rattle.settings.specs.declared.Checked.the-variants as checked
+use Rattle.settings.specs.Values.{noSettings, noName}
 use Rattle.settings.specs.Layout.{form1, imageSize, offsetOf, sumOf}
-use Rattle.settings.specs.Entries.{differingEntry}
-use Rattle.settings.specs.Bodies.{shownIn, settingsIn}
-use Rattle.settings.specs.Answers.{ReadTold}
-use Rattle.settings.specs.Reader.{isBlank, checksumDiffers, formUnknown, fillerDiffers, valueNotAllowed, readWritten, readOf}
-use Rattle.claims.specs.Held.{Bytes, Held}
-use Rattle.claims.proofs.Settings.SettingsRule.{blank-held}
+use Rattle.settings.specs.Table.{bodiesAt, bodies-end}
+use Rattle.settings.specs.Bodies.{shownIn, settingsIn, nameIn, contentsIn}
+use Rattle.settings.specs.Fields.{fieldsSize, fieldsRead}
+use Rattle.settings.specs.Reader.{checkedOf, readAs, readOf}
+use Rattle.settings.proofs.BodyLaws.{bodies-begin, fields-there}
+use Rattle.settings.proofs.ReaderLaws.{refuses}
+use Rattle.claims.specs.Held.{Bytes, Held, HeldContents}
+use Rattle.settings.proofs.PassingLaws.{Good, checked-is-good}
+use Rattle.claims.proofs.Settings.SettingsRule.{blank-contents-held}
 
 -- a number of so many bytes, wherever they stand
 pub number-held : (bytes : List ℕ) → ((k : ℕ) → getD bytes k 0 < 256) → (at width : ℕ) → at + width ≤ length bytes → numberAt at width bytes < 256 ^ width
@@ -48,20 +55,37 @@ module _ (image : List ℕ) (each : (k : ℕ) → getD image k 0 < 256) where
     reset = part-held 84 16 (omega arith);
   }
 
-  abbrev Holds : ReadTold → Type 0
-  Holds told = told .number ≡ 0 → Held (told .settings)
+-- fields of bytes can be held as settings
+pub fields-held : (fields : List ℕ) → length fields ≡ 74 → ((k : ℕ) → getD fields k 0 < 256) → Held (fieldsRead form1 fields)
+unfolding fieldsRead
+fields-held fields size each =
+    let said : length fields ≡ fieldsSize form1 = omega (arith, bodies-end One) in
+    rw (eq-eqb (length fields) (fieldsSize form1) said, pick-true _ noSettings refl)
+    (settings-held (replicate 52 0 ++ fields) (each-append (replicate 52 0) fields (each-replicate 52 0 (omega arith)) each)
+    (omega (arith, length-append (replicate 52 0) fields)))
 
-  written-is-held : length image ≡ imageSize → Holds (readWritten form1 image)
-  unfolding readWritten
-  written-is-held size =
-      by-pick Holds (checksumDiffers image) _ _ (λ y e. absurd (omega arith))
-      (λ n. by-pick Holds (formUnknown form1 image) _ _ (λ y e. absurd (omega arith))
-      (λ n. by-pick Holds (not (eqb (differingEntry form1 image) 0)) _ _ (λ y e. absurd (omega arith))
-      (λ n. by-pick Holds (fillerDiffers form1 image) _ _ (λ y e. absurd (omega arith))
-      (λ n. by-pick Holds (valueNotAllowed form1 image) _ _ (λ y e. absurd (omega arith)) (λ n e. settings-held (omega arith))))))
+module _ (image : List ℕ) (each : (k : ℕ) → getD image k 0 < 256) (size : length image ≡ imageSize) where
+  name-held : (form : Form) → Bytes 64 (nameIn form image)
+  unfolding noName offsetOf sumOf
+  name-held One = record { size = refl; each = each-replicate 64 0xFF (omega arith) }
+  name-held Two = part-held image each 134 64 (omega arith)
 
-  pub read-is-held : readOf form1 image .number ≡ 0 → Held (readOf form1 image .settings)
+  pub contents-held : (form : Form) → HeldContents (contentsIn form image)
+  contents-held form = record {
+    settings =
+        subst Held (fields-there image form (omega (arith, size)))
+        (fields-held (part (bodiesAt form) 74 image) (length-part (bodiesAt form) 74 image (omega (arith, size, bodies-begin form))) (each-part (bodiesAt form) 74 image each));
+    name = name-held form;
+  }
+
+-- what the reader gives can be held
+module _ (image : List ℕ) (each : (k : ℕ) → getD image k 0 < 256) where
+  found-is-held : (found : Checked) → Good Both image found → readAs image found .number ≡ 0 → HeldContents (readAs image found .contents)
+  unfolding Good
+  found-is-held checked.Blank good e = blank-contents-held
+  found-is-held (checked.Written form) good e = contents-held image each (good .0 .size) form
+  found-is-held (checked.Refused refusal) good e = absurd (eqb-false _ _ (refuses refusal) e)
+
+  pub read-is-held : readOf image .number ≡ 0 → HeldContents (readOf image .contents)
   unfolding readOf
-  read-is-held =
-      by-pick Holds (not (eqb (length image) imageSize)) _ _ (λ y e. absurd (omega arith))
-      (λ n. by-pick Holds (isBlank image) _ _ (λ y e. blank-held) (λ m. written-is-held (eqb-true _ _ (not-false _ n))))
+  read-is-held = found-is-held (checkedOf Both image) (checked-is-good image Both)

@@ -1,116 +1,79 @@
 -- Demand 2: "The settings image is read and written by one rule: read after write gives the same settings, and write after read gives the same
--- bytes unless the image was blank."
+-- bytes unless the image was blank." In both forms, T-09.
 -- `readOf` and `writeOf` are what `settings::read` and `settings::write` are proved to do.
 use mathlib.Core.Path.{_≡_, refl, sym, ap, _∙_}
-use mathlib.Core.Bool.{Bool, true, false, not}
+use mathlib.Core.Bool.{true, false, true≢false}
 use mathlib.Core.List.{List}
 use Prim.Native.Nat.{ℕ, _<_}
 use native.Mathlib.Omega.{arith}
-use borrow.Author.Tests.{eq-eqb, eqb-true, not-false}
-use lib.Dec.{eqb}
+use borrow.Author.Tests.{eq-eqb, eqb-false}
 use lib.ListN.{length, getD, replicate}
 use Rattle.octets.specs.Choice.{pick}
-use Rattle.octets.specs.Alike.{allAre}
 use Rattle.octets.proofs.Parts.{each-replicate}
-use Rattle.octets.proofs.Searching.{pick-both, pick-false}
 use Rattle.octets.proofs.AlikeLaws.{replicate-all-are}
-use Rattle.settings.specs.declared.Settings.{Settings}
-use Rattle.settings.specs.Layout.{form1, imageSize}
-use Rattle.settings.specs.Entries.{differingEntry}
-use Rattle.settings.specs.Bodies.{settingsIn}
-use Rattle.settings.specs.Values.{isAllowed, blankSettings, noSettings}
+use Rattle.settings.specs.declared.Form.{Form}
+use Rattle.settings.specs.declared.Form.the-variants.{One}
+use Rattle.settings.specs.declared.Forms.the-variants.{Both}
+use Rattle.settings.specs.declared.Contents.{Contents}
+use Rattle.settings.specs.declared.Checked.{Checked}
+use Rattle.settings.specs.declared.Checked.the-variants as checked
+use Rattle.settings.specs.Layout.{imageSize}
+use Rattle.settings.specs.Bodies.{contentsIn}
+use Rattle.settings.specs.Values.{isAllowed, noName, blankSettings, blankContents, noContents}
 use Rattle.settings.specs.Image.{imageOf}
-use Rattle.settings.specs.Answers.{ReadTold, accepted, refused, refusedAt, writeLeft}
-use Rattle.settings.specs.Reader.{isBlank, checksumDiffers, formUnknown, fillerDiffers, valueNotAllowed, readWritten, readOf}
-use Rattle.settings.specs.Writer.{writeOf}
-use Rattle.claims.specs.Held.{Held}
-use Rattle.claims.proofs.Settings.Written.{image-reads}
-use Rattle.claims.proofs.Settings.Accepted.{written-again}
+use Rattle.settings.specs.Answers.{accepted, writeLeft}
+use Rattle.settings.specs.Reader.{isBlank, checkedOf, readAs, readOf}
+use Rattle.settings.specs.Writer.{nameFits, writeOf}
+use Rattle.settings.proofs.ReaderLaws.{refuses}
+use Rattle.claims.specs.Held.{Held, HeldContents}
+use Rattle.settings.proofs.AgainLaws.{read-is-allowed}
+use Rattle.settings.proofs.PassingLaws.{Passed, Good, checked-is-good, takes, passes}
+use Rattle.claims.proofs.Settings.Written.{image-says, image-passes}
+use Rattle.claims.proofs.Settings.Accepted.{read-name-fits, written-again}
 
 -- what is written, into any area of the right size
-written-is : (s : Settings) (area : List ℕ) → length area ≡ imageSize → isAllowed (s .shown) ≡ true → writeOf form1 s area ≡ writeLeft 0 (imageOf form1 s)
+pub written-is : (c : Contents) (area : List ℕ) → length area ≡ imageSize → isAllowed (c .settings .shown) ≡ true → nameFits (c .form) (c .name) ≡ true
+    → writeOf c area ≡ writeLeft 0 (imageOf c)
 unfolding writeOf pick
-written-is s area size allowed = rw (eq-eqb (length area) imageSize size, allowed)
+written-is c area size allowed fits = rw (eq-eqb (length area) imageSize size, allowed, fits)
 
--- reading what was written gives the same settings
-pub read-after-write : (s : Settings) (area : List ℕ) → Held s → length area ≡ imageSize → isAllowed (s .shown) ≡ true
-    → readOf form1 (writeOf form1 s area .image) ≡ accepted s
-read-after-write s area held size allowed =
-    ap (λ left. readOf form1 (left .image)) (written-is s area size allowed) ∙ image-reads s held allowed
+-- what has passed the reader's tests is accepted
+pub passed-reads : (form : Form) (image : List ℕ) → Passed form image → readOf image ≡ accepted (contentsIn form image)
+unfolding readOf takes
+passed-reads form image passed = ap (readAs image) (passes Both form image passed refl)
+
+module _ (c : Contents) (held : HeldContents c) (allowed : isAllowed (c .settings .shown) ≡ true) (fits : nameFits (c .form) (c .name) ≡ true) where
+  pub image-reads : readOf (imageOf c) ≡ accepted c
+  image-reads = passed-reads (c .form) (imageOf c) (image-passes c held allowed fits) ∙ ap accepted (image-says c held allowed fits)
+
+  -- reading what was written gives the same settings, name and form
+  pub read-after-write : (area : List ℕ) → length area ≡ imageSize → readOf (writeOf c area .image) ≡ accepted c
+  read-after-write area size = ap (λ left. readOf (left .image)) (written-is c area size allowed fits) ∙ image-reads
 
 -- ---- an image that is accepted and not blank
 
--- a step that does not refuse: its test fails, and the next step answers
-not-refused : (number entry : ℕ) (test : Bool) (next : ReadTold) → 0 < number → pick test (refusedAt number entry) next .number ≡ 0
-    → (test ≡ false) × (next .number ≡ 0)
-unfolding pick
-not-refused number entry true next h e = absurd (omega arith)
-not-refused number entry false next h e = (refl, e)
+module _ (image : List ℕ) (each : (k : ℕ) → getD image k 0 < 256) (area : List ℕ) (size : length area ≡ imageSize) where
+  pub passed-is-written : (form : Form) → Passed form image → writeOf (contentsIn form image) area ≡ writeLeft 0 image
+  passed-is-written form passed =
+      written-is (contentsIn form image) area size (read-is-allowed form image (passed .size) (passed .value)) (read-name-fits image form)
+      ∙ ap (writeLeft 0) (written-again form image passed each)
 
--- what an image has passed that is accepted and not blank
-record Passed (image : List ℕ) : Type 0 where
-  size : length image ≡ imageSize
-  checksum : checksumDiffers image ≡ false
-  form : formUnknown form1 image ≡ false
-  entries : differingEntry form1 image ≡ 0
-  filler : fillerDiffers form1 image ≡ false
-  value : valueNotAllowed form1 image ≡ false
-
-module _ (image : List ℕ) where
-  after-filler : ReadTold
-  after-filler = pick (valueNotAllowed form1 image) (refused 8) (accepted (settingsIn form1 image))
-
-  after-entries : ReadTold
-  after-entries = pick (fillerDiffers form1 image) (refused 7) after-filler
-
-  after-form : ReadTold
-  after-form = pick (not (eqb (differingEntry form1 image) 0)) (refusedAt 6 (differingEntry form1 image)) after-entries
-
-  after-checksum : ReadTold
-  after-checksum = pick (formUnknown form1 image) (refused 5) after-form
-
-  passed : readOf form1 image .number ≡ 0 → isBlank image ≡ false → Passed image
-  unfolding readOf readWritten after-checksum after-form after-entries after-filler
-  passed e blank =
-      let s3 = not-refused 3 0 (not (eqb (length image) imageSize)) (pick (isBlank image) (accepted blankSettings) (readWritten form1 image)) (omega arith) e in
-      let written : readWritten form1 image .number ≡ 0 = ap (λ told. told .number) (sym (pick-false (accepted blankSettings) (readWritten form1 image) blank)) ∙ s3 .1 in
-      let s4 = not-refused 4 0 (checksumDiffers image) after-checksum (omega arith) written in
-      let s5 = not-refused 5 0 (formUnknown form1 image) after-form (omega arith) (s4 .1) in
-      let s6 = not-refused 6 (differingEntry form1 image) (not (eqb (differingEntry form1 image) 0)) after-entries (omega arith) (s5 .1) in
-      let s7 = not-refused 7 0 (fillerDiffers form1 image) after-filler (omega arith) (s6 .1) in
-      let s8 = not-refused 8 0 (valueNotAllowed form1 image) (accepted (settingsIn form1 image)) (omega arith) (s7 .1) in
-      record {
-        size = eqb-true (length image) imageSize (not-false (eqb (length image) imageSize) (s3 .0));
-        checksum = s4 .0;
-        form = s5 .0;
-        entries = eqb-true (differingEntry form1 image) 0 (not-false (eqb (differingEntry form1 image) 0) (s6 .0));
-        filler = s7 .0;
-        value = s8 .0;
-      }
-
-  reads-as : Passed image → isBlank image ≡ false → readOf form1 image ≡ accepted (settingsIn form1 image)
-  unfolding readOf readWritten pick
-  reads-as p blank =
-      let some : allAre 0xFF image ≡ false = rw (eq-eqb (length image) imageSize (p .size)) at blank in
-      rw (eq-eqb (length image) imageSize (p .size), some, p .checksum, p .form, p .entries, p .filler, p .value)
-
-  values-allowed : Passed image → isAllowed (settingsIn form1 image .shown) ≡ true
-  unfolding settingsIn valueNotAllowed
-  values-allowed p = pick-both _ _ (not-false _ (p .value)) .0
+  found-is-written : (found : Checked) → Good Both image found → readAs image found .number ≡ 0 → isBlank image ≡ false
+      → writeOf (readAs image found .contents) area ≡ writeLeft 0 image
+  unfolding Good
+  found-is-written checked.Blank blank e written = absurd (true≢false (sym blank ∙ written))
+  found-is-written (checked.Written form) good e written = passed-is-written form (good .0)
+  found-is-written (checked.Refused refusal) good e written = absurd (eqb-false _ _ (refuses refusal) e)
 
   -- writing what was read gives the same bytes
-  pub write-after-read : (area : List ℕ) → length area ≡ imageSize → ((k : ℕ) → getD image k 0 < 256) → readOf form1 image .number ≡ 0 → isBlank image ≡ false
-      → writeOf form1 (readOf form1 image .settings) area ≡ writeLeft 0 image
-  write-after-read area size each e blank =
-      let p = passed e blank in
-      ap (λ told. writeOf form1 (told .settings) area) (reads-as p blank)
-      ∙ written-is (settingsIn form1 image) area size (values-allowed p)
-      ∙ ap (writeLeft 0) (written-again image (p .size) each (p .checksum) (p .form) (p .entries) (p .filler) (p .value))
+  pub write-after-read : readOf image .number ≡ 0 → isBlank image ≡ false → writeOf (readOf image .contents) area ≡ writeLeft 0 image
+  unfolding readOf
+  write-after-read = found-is-written (checkedOf Both image) (checked-is-good image Both)
 
 -- ---- a blank image
 
-pub blank-reads : readOf form1 (replicate imageSize 0xFF) ≡ accepted blankSettings
-unfolding readOf pick
+pub blank-reads : readOf (replicate imageSize 0xFF) ≡ accepted blankContents
+unfolding readOf checkedOf pick
 blank-reads = rw (replicate-all-are 0xFF imageSize)
 
 pub blank-held : Held blankSettings
@@ -121,14 +84,23 @@ blank-held = record {
   reset = record { size = refl; each = each-replicate 16 0xFF (omega arith) };
 }
 
--- writing the blank settings gives an image that reads the same
-pub blank-written-reads : (area : List ℕ) → length area ≡ imageSize → readOf form1 (writeOf form1 blankSettings area .image) ≡ accepted blankSettings
+pub blank-contents-held : HeldContents blankContents
+unfolding noName
+blank-contents-held = record { settings = blank-held; name = record { size = refl; each = each-replicate 64 0xFF (omega arith) } }
+
+-- no name fits form 1
+pub no-name-fits : nameFits One noName ≡ true
+unfolding nameFits noName
+no-name-fits = replicate-all-are 0xFF 64
+
+-- writing the contents of a blank image gives an image of form 1 that reads the same
+pub blank-written-reads : (area : List ℕ) → length area ≡ imageSize → readOf (writeOf blankContents area .image) ≡ accepted blankContents
 unfolding isAllowed pick
-blank-written-reads area size = read-after-write blankSettings area blank-held size refl
+blank-written-reads area size = read-after-write blankContents blank-contents-held refl no-name-fits area size
 
 -- ---- what stands beside a refusal
 
 -- a caller that overlooks a refusal is refused in turn
-pub no-settings-are-refused : (area : List ℕ) → length area ≡ imageSize → writeOf form1 noSettings area ≡ writeLeft 8 area
+pub no-contents-are-refused : (area : List ℕ) → length area ≡ imageSize → writeOf noContents area ≡ writeLeft 8 area
 unfolding writeOf isAllowed pick
-no-settings-are-refused area size = rw (eq-eqb (length area) imageSize size)
+no-contents-are-refused area size = rw (eq-eqb (length area) imageSize size)

@@ -17,7 +17,7 @@ use Rattle.session_state.specs.Phases.{isUnlocked}
 use Rattle.settings.specs.Values.{blankSettings}
 use Rattle.claims.specs.TwoBoards.{Images, started, AlikeBoards, WithoutPassword, replied}
 use Rattle.claims.specs.Visits.{AllWithout, visitOne}
-use Rattle.claims.specs.Trials.{sectorSize, blankBoard, writtenBoard, quietBoard, resetBoard, strictBoard, guardedBoard, Differ, secondFF, allFF, connects, unlocks, twoGuesses, threeGuesses, guesser, ran, toBlankPassword}
+use Rattle.claims.specs.Trials.{sectorSize, blankBoard, writtenBoard, quietBoard, resetBoard, strictBoard, guardedBoard, namedStrict, nameOf, formOf, Differ, secondFF, allFF, connects, unlocks, twoGuesses, threeGuesses, guesser, ran, toBlankPassword}
 use Rattle.session_judge.specs.Judgement.{says}
 use Rattle.session_judge.specs.Unlocking.{afterRight, countedUp, afterWrong, asleep, triedWrong, tried}
 use Rattle.session.specs.CallAnswers.{Left}
@@ -26,7 +26,7 @@ use Rattle.session.specs.Calling.{followed}
 use Rattle.octets.proofs.AlikeLaws.{equal-are-same}
 use Rattle.claims.proofs.Secrecy.LockedBoard.{sessionThen, later}
 use Rattle.claims.proofs.Trials.SomePackets.{stood}
-use Rattle.claims.proofs.Trials.SomeBoards.{blank-is-good, quiet-is-good, reset-is-good, blank-and-quiet-are-alike, blank-and-quiet-differ, reset-are-alike, reset-differ}
+use Rattle.claims.proofs.Trials.SomeBoards.{blank-is-good, quiet-is-good, reset-is-good, blank-and-quiet-are-alike, blank-and-quiet-differ, reset-are-alike, reset-differ, named-are-alike, names-differ, both-forms-are-alike, forms-differ}
 use Rattle.claims.proofs.Trials.SomeSessions.{room, connect-is-strange, unlock-is-strange, unlock-is-tried, message-is-sixth, two-guesses-keep, three-guesses-erase, three-guesses-keep}
 
 -- ---- there are boards that are alike, and differ in both passwords and both images
@@ -34,8 +34,22 @@ use Rattle.claims.proofs.Trials.SomeSessions.{room, connect-is-strange,
 abbrev quiet : Images
 quiet = quietBoard 0 0
 
+abbrev oneStrict : Images
+oneStrict = strictBoard 0x11 0x66
+
+abbrev otherStrict : Images
+otherStrict = strictBoard 0x22 0x77
+
 pub blank-and-quiet : AlikeBoards mspm0 blankBoard quiet × Differ blankBoard quiet
 blank-and-quiet = (blank-and-quiet-are-alike, blank-and-quiet-differ)
+
+-- ---- T-09, "the name is a third secret": there are such boards with two names, and in both forms
+
+pub two-named : AlikeBoards mspm0 (namedStrict 0x41 0x11 0x66) (namedStrict 0x42 0x22 0x77) × (nameOf (namedStrict 0x41 0x11 0x66) ≡ nameOf (namedStrict 0x42 0x22 0x77) → ⊥)
+two-named = (named-are-alike, names-differ)
+
+pub one-named : AlikeBoards mspm0 oneStrict (namedStrict 0x42 0x22 0x77) × (formOf oneStrict ≡ formOf (namedStrict 0x42 0x22 0x77) → ⊥)
+one-named = (both-forms-are-alike, forms-differ)
 
 -- ---- the alert strikes in a session without a password: all is erased that was there
 
@@ -70,12 +84,6 @@ module _ (guard : ℕ) (bit : guard ≤ 1) where
   -- and so for a person who guesses: four calls are that session, and what they sent has no password
   pub guesser-is-without : AllWithout mspm0 one other (visitOne mspm0 guesser one 4 .sent) × (visitOne mspm0 guesser one 4 .board ≡ ran (started mspm0 one) threeGuesses)
   guesser-is-without = ((guess-without, (guess-without, (guess-without, (connect-without, tt)))), refl)
-
-abbrev oneStrict : Images
-oneStrict = strictBoard 0x11 0x66
-
-abbrev otherStrict : Images
-otherStrict = strictBoard 0x22 0x77
 
 pub two-strict : AlikeBoards mspm0 oneStrict otherStrict × Differ oneStrict otherStrict
 two-strict = (reset-are-alike 0 (omega arith), reset-differ 0 (omega arith))

@@ -6,22 +6,27 @@ use native.Mathlib.Omega.{arith}
 use lib.ListN.{length}
 use Rattle.parts.specs.Parts.{mspm0}
 use Rattle.parts.proofs.PartLaws.{mspm0-is-sound}
+use Rattle.settings.specs.declared.Form.the-variants.{One}
+use Rattle.settings.specs.Values.{noName}
+use Rattle.settings.specs.Bodies.{contentsOf}
 use Rattle.session_judge.specs.Unlocking.{alertReset}
 use Rattle.c_records.specs.Records.{recordSize}
 use Rattle.claims.specs.TwoBoards.{Sending}
 use Rattle.claims.specs.TwoBoardsFromC.{Lent, AlikeSessionsFromC}
 use Rattle.claims.specs.Trials.{chosen, writtenBoard, resetBoard, strictBoard, guardedBoard}
 use Rattle.claims.proofs.Settings.Written.{each-of-image}
+use Rattle.claims.proofs.Settings.SettingsRule.{no-name-fits}
 use Rattle.claims.proofs.Secrecy.ToldApartFromC.{two-boards-are-alike-from-C}
-use Rattle.claims.proofs.Trials.SomeBoards.{chosen-is-held, chosen-is-allowed, reset-are-alike}
+use Rattle.claims.proofs.Trials.SomeBoards.{unnamed-is-held, chosen-is-allowed, reset-are-alike}
 
 -- each byte that is lent is one: an image that was written is made of bytes
 pub reset-is-lent : (guard byte main : ℕ) (area : List ℕ) → guard ≤ 1 → byte < 256 → length area ≡ recordSize → Lent (resetBoard guard byte main) area
 unfolding writtenBoard
 reset-is-lent guard byte main area bit small size = record {
   bytes =
-      each-of-image (chosen alertReset guard 0 byte) (chosen-is-held alertReset guard guard 0xFFFF 0 byte main (omega arith) bit bit (omega arith) (omega arith) small)
-      (chosen-is-allowed alertReset guard guard 0xFFFF 0 byte main (omega arith) bit bit (omega arith) (omega arith) small);
+      each-of-image (contentsOf One (chosen alertReset guard 0 byte) noName)
+      (unnamed-is-held alertReset guard guard 0xFFFF 0 byte main (omega arith) bit bit (omega arith) (omega arith) small)
+      (chosen-is-allowed alertReset guard guard 0xFFFF 0 byte main (omega arith) bit bit (omega arith) (omega arith) small) no-name-fits;
   size = size;
 }
 

@@ -11,34 +11,42 @@ use Rattle.octets.specs.Number.{numberOf, isMultiple}
 use Rattle.octets.proofs.Parts.{each-cons, each-replicate}
 use Rattle.parts.specs.Parts.{mspm0}
 use Rattle.settings.specs.declared.Settings.{Settings}
-use Rattle.settings.specs.Values.{isAllowed, blankSettings}
-use Rattle.settings.specs.Layout.{form1}
-use Rattle.settings.specs.Answers.{ReadTold, accepted}
+use Rattle.settings.specs.Values.{isAllowed, noName, blankSettings}
+use Rattle.settings.specs.declared.Form.{Form}
+use Rattle.settings.specs.declared.Form.the-variants.{One, Two}
+use Rattle.settings.specs.declared.Contents.{Contents}
+use Rattle.settings.specs.Bodies.{contentsOf}
+use Rattle.settings.specs.Answers.{SettingsTold, accepted, settingsOnly}
 use Rattle.settings.specs.Reader.{readOf}
+use Rattle.settings.specs.Writer.{nameFits}
 use Rattle.session_judge.specs.Unlocking.{alertReset}
 use Rattle.session_act.specs.Info.{versionAt}
 use Rattle.flash.specs.Regions.{isMainSize}
 use Rattle.session.specs.Starting.{startRead, startOf}
-use Rattle.claims.specs.Held.{Held}
+use Rattle.claims.specs.Held.{Held, HeldContents}
 use Rattle.claims.specs.TwoBoards.{Images, settingsOf, AlikeBoards}
-use Rattle.claims.specs.Trials.{mainSize, windowOf, blankBoard, chosenBy, chosen, writtenBoard, quietBoard, resetBoard, Differ}
-use Rattle.claims.proofs.Settings.Written.{image-reads}
+use Rattle.claims.specs.Trials.{mainSize, windowOf, blankBoard, chosenBy, chosen, writtenBoard, namedBoard, quietBoard, resetBoard, namedStrict, nameOf, formOf, Differ}
+use Rattle.claims.proofs.Settings.SettingsRule.{image-reads, blank-reads, no-name-fits}
 use Rattle.claims.proofs.Sessions.CallRules.{accepted-is-allowed}
-use Rattle.claims.proofs.Settings.SettingsRule.{blank-reads}
 
 -- ---- the boards start, with the settings that were chosen
+
+-- settings that are taken of an image
+abbrev pub taken : Settings → SettingsTold
+taken settings = record { number = 0; entry = 0; settings = settings }
 
 -- a board of a right size, of which the reader accepts these settings
 pub record Good (images : Images) (settings : Settings) : Type 0 where
   pub size : length (images .main) ≡ mainSize
   pub window : length (images .window) ≡ mspm0 .«window_size»
-  pub read : readOf form1 (images .settings) ≡ accepted settings
+  pub read : settingsOnly (readOf (images .settings)) ≡ taken settings
 
 pub starts : (images : Images) (settings : Settings) → Good images settings → startOf mspm0 false (images .main) (images .settings) (images .window) .answer .number ≡ 0
 unfolding startOf startRead isMainSize isMultiple pick
 starts images settings good =
-    let long = accepted-is-allowed mspm0 (images .settings) (ap (λ (told : ReadTold). told .number) (good .read)) .1 in
-    rw (good .size, long, good .window, good .read)
+    let number : readOf (images .settings) .number ≡ 0 = ap (λ (told : SettingsTold). told .number) (good .read) in
+    let long = accepted-is-allowed mspm0 (images .settings) number .1 in
+    rw (good .size, long, good .window, number)
 
 -- a window that is one byte all through
 pub window-sized : (byte : ℕ) → length (windowOf byte) ≡ mspm0 .«window_size»
@@ -48,7 +56,7 @@ window-sized byte = length-replicate {A = ℕ} (mspm0 .«window_size») byte
 -- a blank board
 pub blank-is-good : Good blankBoard blankSettings
 unfolding blankBoard
-blank-is-good = record { size = length-replicate {A = ℕ} mainSize 0xFF; window = window-sized 0xFF; read = blank-reads }
+blank-is-good = record { size = length-replicate {A = ℕ} mainSize 0xFF; window = window-sized 0xFF; read = ap settingsOnly blank-reads }
 
 -- a written board: the reader takes back what was written
 module _ (alert sector guard readout pointer byte main : ℕ)
@@ -69,10 +77,34 @@ module _ (alert sector guard readout pointer byte main : ℕ)
     unfolding isAllowed pick
     chosen-is-allowed = rw (le-leb alert 2 known, le-leb guard 1 bit)
 
+    -- without a name in form 1
+    pub unnamed-is-held : HeldContents (contentsOf One written noName)
+    unfolding noName
+    unnamed-is-held = record { settings = chosen-is-held; name = record { size = refl; each = each-replicate 64 0xFF (omega arith) } }
+
+    pub unnamed-reads : readOf (writtenBoard written main .settings) ≡ accepted (contentsOf One written noName)
+    unfolding writtenBoard
+    unnamed-reads = image-reads (contentsOf One written noName) unnamed-is-held chosen-is-allowed no-name-fits
+
     pub written-is-good : Good (writtenBoard written main) written
     unfolding writtenBoard
-    written-is-good =
-        record { size = omega (arith, length-replicate 2044 main); window = window-sized main; read = image-reads written chosen-is-held chosen-is-allowed }
+    written-is-good = record { size = omega (arith, length-replicate 2044 main); window = window-sized main; read = ap settingsOnly unnamed-reads }
+
+    -- and with one in form 2
+    module _ (name : ℕ) (text : name < 256) where
+      abbrev named : Contents
+      named = contentsOf Two written (replicate 64 name)
+
+      named-is-held : HeldContents named
+      named-is-held = record { settings = chosen-is-held; name = record { size = length-replicate 64 name; each = each-replicate 64 name text } }
+
+      pub named-reads : readOf (namedBoard written name main .settings) ≡ accepted named
+      unfolding namedBoard nameFits
+      named-reads = image-reads named named-is-held chosen-is-allowed refl
+
+      named-is-good : Good (namedBoard written name main) written
+      unfolding namedBoard
+      named-is-good = record { size = omega (arith, length-replicate 2044 main); window = window-sized main; read = ap settingsOnly named-reads }
 
 pub quiet-is-good : (byte main : ℕ) → byte < 256 → Good (quietBoard byte main) (chosen 0 0 0xFFFFFFFF byte)
 quiet-is-good byte main small = written-is-good 0 0 0 0xFFFF 0xFFFFFFFF byte main (omega arith) (omega arith) (omega arith) (omega arith) (omega arith) small
@@ -84,8 +116,8 @@ reset-is-good guard byte main bit small = written-is-good alertReset guard guard
 
 module _ (one other : Images) (oneSettings otherSettings : Settings) (oneGood : Good one oneSettings) (otherGood : Good other otherSettings) where
   -- what is read of both, by what was written
-  by-reading : {A : Type 0} (ofOne ofOther : ReadTold → A) → ofOne (accepted oneSettings) ≡ ofOther (accepted otherSettings)
-      → ofOne (readOf form1 (one .settings)) ≡ ofOther (readOf form1 (other .settings))
+  by-reading : {A : Type 0} (ofOne ofOther : SettingsTold → A) → ofOne (taken oneSettings) ≡ ofOther (taken otherSettings)
+      → ofOne (settingsOnly (readOf (one .settings))) ≡ ofOther (settingsOnly (readOf (other .settings)))
   by-reading ofOne ofOther same = ap ofOne (oneGood .read) ∙ same ∙ sym (ap ofOther (otherGood .read))
 
   pub are-alike : oneSettings .shown ≡ otherSettings .shown → oneSettings .protection ≡ otherSettings .protection
@@ -105,7 +137,7 @@ module _ (one other : Images) (oneSettings otherSettings : Settings) (oneGood : 
   -- passwords differ by their first bytes
   first-differs : (of : Settings → List ℕ) → (getD (of oneSettings) 0 0 ≡ getD (of otherSettings) 0 0 → ⊥) → of (settingsOf one) ≡ of (settingsOf other) → ⊥
   first-differs of differs e =
-      let firstOf : (ReadTold → ℕ) = λ told. getD (of (told .settings)) 0 0 in
+      let firstOf : (SettingsTold → ℕ) = λ told. getD (of (told .settings)) 0 0 in
       differs (sym (ap firstOf (oneGood .read)) ∙ ap (λ (bytes : List ℕ). getD bytes 0 0) e ∙ ap firstOf (otherGood .read))
 
   differ : (place : ℕ) → (getD (oneSettings .password) 0 0 ≡ getD (otherSettings .password) 0 0 → ⊥)
@@ -115,7 +147,7 @@ module _ (one other : Images) (oneSettings otherSettings : Settings) (oneGood : 
     password = first-differs (λ settings. settings .password) password;
     resetPassword = first-differs (λ settings. settings .«reset_password») reset;
     main = λ e. main (ap (λ (bytes : List ℕ). getD bytes place 0) e);
-    settings = λ e. first-differs (λ settings. settings .password) password (ap (λ (image : List ℕ). readOf form1 image .settings .password) e);
+    settings = λ e. first-differs (λ settings. settings .password) password (ap (λ (image : List ℕ). readOf image .contents .settings .password) e);
     window = λ e. window (ap (λ (bytes : List ℕ). getD bytes 0 0) e);
   }
 
@@ -155,3 +187,48 @@ module _ (guard : ℕ) (bit : guard ≤ 1) where
   reset-differ =
       differ (resetBoard guard 0x11 0x66) (resetBoard guard 0x22 0x77) _ _ (reset-is-good guard 0x11 0x66 bit (omega arith)) (reset-is-good guard 0x22 0x77 bit (omega arith)) 4
       (λ e. omega arith) (λ e. omega arith) (λ e. omega arith) (λ e. omega arith)
+
+-- ---- two with names, and one with a name beside one without
+
+named-version : (name byte main : ℕ) → versionAt 0 (namedStrict name byte main .main) ≡ 0x55555555
+unfolding versionAt namedBoard numberOf pick
+named-version name byte main = refl
+
+strict-is-named : (name byte main : ℕ) → byte < 256 → name < 256 → Good (namedStrict name byte main) (chosen alertReset 0 0 byte)
+strict-is-named name byte main small text = named-is-good alertReset 0 0 0xFFFF 0 byte main (omega arith) (omega arith) (omega arith) (omega arith) (omega arith) small name text
+
+-- the name and the form that the reader tells of them
+name-is : (name byte main : ℕ) → byte < 256 → name < 256 → nameOf (namedStrict name byte main) ≡ replicate 64 name
+name-is name byte main small text = ap (λ told. told .contents .name) (named-reads alertReset 0 0 0xFFFF 0 byte main (omega arith) (omega arith) (omega arith) (omega arith) (omega arith) small name text)
+
+form-is-two : (name byte main : ℕ) → byte < 256 → name < 256 → formOf (namedStrict name byte main) ≡ Two
+form-is-two name byte main small text = ap (λ told. told .contents .form) (named-reads alertReset 0 0 0xFFFF 0 byte main (omega arith) (omega arith) (omega arith) (omega arith) (omega arith) small name text)
+
+form-is-one : (guard byte main : ℕ) → guard ≤ 1 → byte < 256 → formOf (resetBoard guard byte main) ≡ One
+form-is-one guard byte main bit small =
+    ap (λ told. told .contents .form) (unnamed-reads alertReset guard guard 0xFFFF 0 byte main (omega arith) bit bit (omega arith) (omega arith) small)
+
+number : Form → ℕ
+number One = 1
+number Two = 2
+
+pub named-are-alike : AlikeBoards mspm0 (namedStrict 0x41 0x11 0x66) (namedStrict 0x42 0x22 0x77)
+named-are-alike =
+    are-alike (namedStrict 0x41 0x11 0x66) (namedStrict 0x42 0x22 0x77) _ _ (strict-is-named 0x41 0x11 0x66 (omega arith) (omega arith)) (strict-is-named 0x42 0x22 0x77 (omega arith) (omega arith)) refl refl
+    (named-version 0x41 0x11 0x66 ∙ sym (named-version 0x42 0x22 0x77))
+
+pub names-differ : nameOf (namedStrict 0x41 0x11 0x66) ≡ nameOf (namedStrict 0x42 0x22 0x77) → ⊥
+names-differ e =
+    omega
+    (arith, ap (λ (bytes : List ℕ). getD bytes 0 0) (sym (name-is 0x41 0x11 0x66 (omega arith) (omega arith)) ∙ e ∙ name-is 0x42 0x22 0x77 (omega arith) (omega arith)))
+
+pub both-forms-are-alike : AlikeBoards mspm0 (resetBoard 0 0x11 0x66) (namedStrict 0x42 0x22 0x77)
+both-forms-are-alike =
+    are-alike (resetBoard 0 0x11 0x66) (namedStrict 0x42 0x22 0x77) _ _ (reset-is-good 0 0x11 0x66 (omega arith) (omega arith)) (strict-is-named 0x42 0x22 0x77 (omega arith) (omega arith)) refl refl
+    (reset-version 0 0x11 0x66 ∙ sym (named-version 0x42 0x22 0x77))
+
+pub forms-differ : formOf (resetBoard 0 0x11 0x66) ≡ formOf (namedStrict 0x42 0x22 0x77) → ⊥
+unfolding number
+forms-differ e =
+    omega
+    (arith, ap number (sym (form-is-one 0 0x11 0x66 (omega arith) (omega arith)) ∙ e ∙ form-is-two 0x42 0x22 0x77 (omega arith) (omega arith)))

@@ -22,7 +22,7 @@ use Rattle.line.proofs.ReplyLaws.{message-bytes}
 use Rattle.session_state.specs.declared.Standing.{Standing}
 use Rattle.session_state.specs.Phases.{mostSleep, atStart}
 use Rattle.settings.specs.declared.Settings.{Settings}
-use Rattle.settings.specs.Answers.{ReadTold}
+use Rattle.settings.specs.Answers.{SettingsTold}
 use Rattle.flash.specs.Memory.{Memory, memory}
 use Rattle.flash.specs.declared.Region.the-variants.{Outside}
 use Rattle.flash.specs.Protection.{isProtected, mayChange}
@@ -60,7 +60,7 @@ module _ (images : Images) (settings : Settings) (good : Good images settings) w
 
   pub not-carried : (packet core : List ℕ) → coreIn packet ≡ core → (core ≡ unlock ∷ settings .password → ⊥) → Carries mspm0 packet (settingsOf images .password) → ⊥
   not-carried packet core there other carries =
-      other (sym there ∙ carries .core ∙ ap (λ (told : ReadTold). unlock ∷ told .settings .password) (good .read))
+      other (sym there ∙ carries .core ∙ ap (λ (told : SettingsTold). unlock ∷ told .settings .password) (good .read))
 
   pub connect-is-strange : Carries mspm0 (connects .packet) (settingsOf images .password) → ⊥
   connect-is-strange = not-carried (connects .packet) _ connect-core (λ e. omega (arith, ap (λ (bytes : List ℕ). getD bytes 0 0) e))
@@ -111,7 +111,7 @@ module _ (images : Images) (settings : Settings) (good : Good images settings) w
     unfolding serveOf
     unlock-is-tried-at board standing stands wrong awake right compared =
         let core = sym (unlock-is-password (mspm0 .«last_rate») (unlocks byte .packet) (unlock-is-fine byte small) (unlock-is-read byte)) ∙ unlock-core byte in
-        let bit = ap₂ areSame (ap (λ (told : ReadTold). told .settings .password) (good .read)) (ap (drop 1) core) ∙ compared in
+        let bit = ap₂ areSame (ap (λ (told : SettingsTold). told .settings .password) (good .read)) (ap (drop 1) core) ∙ compared in
         ap (λ (board : Running). called mspm0 board (unlocks byte) (unlocks byte .oneArea)) (stands .so)
         ∙ valid-is-served mspm0 (sessionThen images standing) _ 2000 (unlocks byte .packet) (unlocks byte .oneArea) (stands .locked .valid) (stands .locked .window) (room 0)
         ∙ ap (followed mspm0 (sessionThen images standing) _ (unlocks byte .packet) (unlocks byte .oneArea))
@@ -180,7 +180,7 @@ module _ (images : Images) (settings : Settings) (good : Good images settings)
     (reset : settings .shown .alert ≡ alertReset) (other : 0x33 ≡ getD (settings .password) 0 0 → ⊥)
   where
     pub resets : alertOf images ≡ alertReset
-    resets = ap (λ (told : ReadTold). told .settings .shown .alert) (good .read) ∙ reset
+    resets = ap (λ (told : SettingsTold). told .settings .shown .alert) (good .read) ∙ reset
 
     pub guessed-twice : Stands images (ran (started mspm0 images) twoGuesses) (stood mostSleep 2)
     guessed-twice =
@@ -205,7 +205,7 @@ module _ (images : Images) (settings : Settings) (good : Good images settings)
     strike-leaves =
         ap (λ (board : Running). board .memory) (guessed .so)
         ∙ ap (memoryThen mspm0 images) (struck-at-three .1)
-        ∙ ap (λ (told : ReadTold). memory (imageThen sectorSize true (told .settings .protection) (images .main))
+        ∙ ap (λ (told : SettingsTold). memory (imageThen sectorSize true (told .settings .protection) (images .main))
         (imageThen sectorSize true (settingsProtection (told .settings .shown)) (images .settings)) (images .window)) (good .read)
 
 module _ (byte main : ℕ) (small : byte < 256) (other : 0x33 ≡ byte → ⊥) where

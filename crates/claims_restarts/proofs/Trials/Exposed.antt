@@ -11,9 +11,8 @@ use Rattle.parts.proofs.PartLaws.{mspm0-is-sound}
 use Rattle.line.specs.declared.Reply.the-variants.{Bytes}
 use Rattle.line.specs.Replies.{coreReply, replyBytes}
 use Rattle.settings.specs.declared.Settings.{Settings}
-use Rattle.settings.specs.Layout.{form1}
 use Rattle.settings.specs.Image.{imageOf}
-use Rattle.settings.specs.Answers.{Numbered, ReadTold}
+use Rattle.settings.specs.Answers.{Numbered, SettingsTold}
 use Rattle.flash.specs.Memory.{memory}
 use Rattle.flash.specs.Erasing.{eraseAllOf}
 use Rattle.flash.proofs.ErasingLaws.{erase-all-of-open}
@@ -28,7 +27,7 @@ use Rattle.claims.specs.Visits.{Seen}
 use Rattle.claims_restarts.specs.Moves.{Sight, nowAfter, seenAfter, Throughout}
 use Rattle.claims_restarts.specs.Boards.{fresh, portOne, portOther}
 use Rattle.claims_restarts.specs.Returning.{Without}
-use Rattle.claims_restarts.specs.Trials.{untilStruck, blanked, readable, shownCount, readsWindow, opening, exposedBoard, settingsFirst, lastReply}
+use Rattle.claims_restarts.specs.Trials.{untilStruck, blanked, readableContents, shownCount, readsWindow, opening, exposedBoard, settingsFirst, lastReply}
 use Rattle.claims_restarts.proofs.SameBoard.{same-through}
 use Rattle.claims_restarts.proofs.Twins.{settings-size}
 use Rattle.claims_restarts.proofs.Trials.SomeVisits.{handed, left-then}
@@ -70,7 +69,7 @@ module _ (byte main : ℕ) (small : byte < 256) where
   settings-are-blank =
       let good = reset-is-good 0 byte main (omega arith) small in
       ap (λ (settings : List ℕ). memory (strict .main) settings (blanked (strict .main) .window))
-      (ap (λ (told : ReadTold). eraseAllOf sectorSize (settingsProtection (told .settings .shown)) (strict .settings)) (good .read)
+      (ap (λ (told : SettingsTold). eraseAllOf sectorSize (settingsProtection (told .settings .shown)) (strict .settings)) (good .read)
       ∙ erase-all-of-open sectorSize (0 ∷ []) (strict .settings) (omega arith) (λ place there. none-protected 1 (place / sectorSize))
       ∙ ap (λ (size : ℕ). replicate size 0xFF) (settings-size mspm0 mspm0-is-sound strict (starts strict _ good)))
 
@@ -132,7 +131,7 @@ settings-first-tells-apart same =
 -- it, so what it held at first.
 abbrev keptReply : List ℕ → List ℕ → List ℕ
 keptReply main window =
-    replied (called mspm0 (ran (started mspm0 (memory main (imageOf form1 readable) window)) (connects ∷ unlocks 0xFF ∷ [])) readsWindow (readsWindow .oneArea))
+    replied (called mspm0 (ran (started mspm0 (memory main (imageOf readableContents) window)) (connects ∷ unlocks 0xFF ∷ [])) readsWindow (readsWindow .oneArea))
 
 -- the first byte of a window is the sixth of the reply
 sixth : (byte : ℕ) → getD (replyBytes Bytes (part 0 shownCount (windowOf byte))) 5 0 ≡ byte

@@ -12,8 +12,7 @@ use Rattle.octets.proofs.AlikeLaws.{equal-are-same}
 use Rattle.parts.specs.Parts.{mspm0}
 use Rattle.parts.proofs.PartLaws.{mspm0-is-sound}
 use Rattle.session_state.specs.Phases.{mostSleep, isUnlocked}
-use Rattle.settings.specs.Layout.{form1}
-use Rattle.settings.specs.Answers.{ReadTold, accepted}
+use Rattle.settings.specs.Answers.{SettingsTold, settingsOnly}
 use Rattle.settings.specs.Reader.{readOf}
 use Rattle.flash.specs.Memory.{Memory, memory}
 use Rattle.flash.specs.Protection.{isProtected, mayChange}
@@ -29,7 +28,7 @@ use Rattle.claims.proofs.Secrecy.LockedBoard.{imageThen, memoryThen, later}
 use Rattle.claims.proofs.Secrecy.LockedCall.{verdict}
 use Rattle.claims.proofs.Trials.SomePackets.{stood, tried-asleep}
 use Rattle.claims.proofs.Trials.SomeBoards as boards
-use Rattle.claims.proofs.Trials.SomeBoards.{Good, reset-is-good, reset-are-alike}
+use Rattle.claims.proofs.Trials.SomeBoards.{taken, Good, reset-is-good, reset-are-alike}
 use Rattle.claims.proofs.Trials.NotVacuousFromC.{reset-is-lent}
 use Rattle.claims.proofs.Trials.SomeSessions.{unlock-is-strange, unlock-is-tried-at, none-protected, resets, guessed-twice, guessed, struck-at-three, second-erased, all-kept}
 use Rattle.claims_restarts.specs.Moves.{Move, Send, Cut, Now, moved, nowAfter, seenAfter, Throughout}
@@ -66,7 +65,7 @@ other-now-is-good : Good (fresh mspm0 otherStrict) (chosen alertReset 0 0 0x22)
 other-now-is-good = now-is-good otherStrict _ other-is-good refl (λ e. omega arith)
 
 -- what the reader takes of the one board
-one-reads : {A : Type 0} (of : ReadTold → A) → of (readOf form1 (oneStrict .settings)) ≡ of (accepted (chosen alertReset 0 0 0x11))
+one-reads : {A : Type 0} (of : SettingsTold → A) → of (settingsOnly (readOf (oneStrict .settings))) ≡ of (taken (chosen alertReset 0 0 0x11))
 one-reads of = ap of (one-is-good .read)
 
 -- with the start after the session that was struck the condition is over: the password of the one board is sent, and it is not asked about
@@ -211,7 +210,7 @@ guarded-is-good = reset-is-good 1 0x11 0x66 (omega arith) (omega arith)
 pub advised-is-asked : Advised mspm0 (guardedBoard 0x11 0x66) (guardedBoard 0x22 0x77) untilStruck
 advised-is-asked = record {
   boards = reset-are-alike 1 (omega arith);
-  kept = λ e. ap (λ (told : ReadTold). told .settings .shown .«settings_protected») (guarded-is-good .read);
+  kept = λ e. ap (λ (told : SettingsTold). told .settings .shown .«settings_protected») (guarded-is-good .read);
   room = until-roomy;
   without =
       until-without (guardedBoard 0x11 0x66) (guardedBoard 0x22 0x77) _ _ guarded-is-good (reset-is-good 1 0x22 0x77 (omega arith) (omega arith))

@@ -34,8 +34,8 @@ use Rattle.session_state.specs.Phases.{countsFit, isValid}
 use Rattle.session_state.specs.Waits.{isIdleTooLong, commandIdles, passTime}
 use Rattle.settings.specs.declared.Settings.{Settings}
 use Rattle.settings.specs.Values.{isAllowed, blankSettings}
-use Rattle.settings.specs.Layout.{form1, imageSize}
-use Rattle.settings.specs.Answers.{ReadTold, accepted}
+use Rattle.settings.specs.Layout.{imageSize}
+use Rattle.settings.specs.Answers.{SettingsTold, ReadTold, accepted, settingsOnly}
 use Rattle.settings.specs.Reader.{readOf}
 use Rattle.settings.specs.Image.{imageOf}
 use Rattle.flash.specs.declared.Place.{Place}
@@ -62,21 +62,21 @@ use Rattle.session_act.specs.Plans.{orders}
 use Rattle.session_act.specs.Orders.{carriedOut}
 use Rattle.session_act.specs.Programming.{isOutside, isWindow, isAligned, programIn, program}
 use Rattle.session_act.specs.Showing.{readoutOn, readBackAt}
-use Rattle.claims.specs.Held.{Held}
+use Rattle.claims.specs.Held.{HeldContents}
 use Rattle.claims.specs.TwoBoards.{Images, Running, settingsOf, started, called, next, replied, isStruck}
 use Rattle.claims.specs.Trials.{mainSize, sends, connects, unlocks, packetOf, ran}
-use Rattle.claims.proofs.Settings.Written.{image-reads, each-of-image}
+use Rattle.claims.proofs.Settings.Written.{each-of-image}
 use Rattle.claims.proofs.Trials.Framing.{never-empty, length-there, framed}
-use Rattle.claims.proofs.Settings.SettingsRule.{blank-reads}
+use Rattle.claims.proofs.Settings.SettingsRule.{image-reads, blank-reads, no-name-fits}
 use Rattle.claims.proofs.Sessions.WrittenRule.{blank-program-is-obeyed}
 use Rattle.claims.proofs.Sessions.CallRules.{accepted-is-allowed, valid-is-served}
 use Rattle.claims.proofs.Secrecy.LockedBoard.{imageThen, alertOf, memoryThen}
 use Rattle.claims.proofs.Trials.SomePackets.{stood}
-use Rattle.claims.proofs.Trials.SomeBoards.{Good, starts, chosen-is-held, chosen-is-allowed}
+use Rattle.claims.proofs.Trials.SomeBoards.{Good, starts, unnamed-is-held, chosen-is-allowed}
 use Rattle.claims.proofs.Trials.SomeSessions.{room, unlock-is-tried, none-protected}
 use Rattle.claims_restarts.specs.Moves.{Move, nowAfter, seenAfter}
 use Rattle.claims_restarts.specs.Boards.{fresh, portOne}
-use Rattle.claims_restarts.specs.Trials.{session, blanked, readable, programs, shownCount, reads, readsWindow, opening, lastReply}
+use Rattle.claims_restarts.specs.Trials.{session, blanked, readable, readableContents, programs, shownCount, reads, readsWindow, opening, lastReply}
 use Rattle.claims_restarts.proofs.Trials.SomeVisits.{handed, session-runs}
 use Rattle.claims_restarts.proofs.Twins.{zeros-size, settings-size}
 
@@ -102,7 +102,7 @@ module _ (images : Images) (settings : Settings) (good : Good images settings) (
   where
     not-struck : isStruck (alertOf images) 0 ≡ false
     unfolding isStruck pick
-    not-struck = rw (ap (λ (told : ReadTold). told .settings .shown .alert) (good .read) ∙ quiet) refl
+    not-struck = rw (ap (λ (told : SettingsTold). told .settings .shown .alert) (good .read) ∙ quiet) refl
 
     unlocked-now : next (called mspm0 (ran (started mspm0 images) (connects ∷ [])) (unlocks 0xFF) (unlocks 0xFF .oneArea)) ≡ unlockedBoard images settings
     unfolding tried imageThen pick
@@ -112,7 +112,7 @@ module _ (images : Images) (settings : Settings) (good : Good images settings) (
           session = record { standing = unlockedStanding; «main_size» = length (images .main); settings = settingsOf images };
           memory = memoryThen mspm0 images struck;
         }) not-struck
-        ∙ ap₂ (λ (size : ℕ) (told : ReadTold). record {
+        ∙ ap₂ (λ (size : ℕ) (told : SettingsTold). record {
           session = record { standing = unlockedStanding; «main_size» = size; settings = told .settings };
           memory = images;
         }) (good .size) (good .read)
@@ -149,17 +149,17 @@ blank-is-allowed : isAllowed (blankSettings .shown) ≡ true
 unfolding isAllowed pick
 blank-is-allowed = refl
 
-readable-is-held : Held readable
-readable-is-held = chosen-is-held 0 0 0 readoutOn 0xFFFFFFFF 0xFF 0 (omega arith) (omega arith) (omega arith) (omega arith) (omega arith) (omega arith)
+readable-is-held : HeldContents readableContents
+readable-is-held = unnamed-is-held 0 0 0 readoutOn 0xFFFFFFFF 0xFF 0 (omega arith) (omega arith) (omega arith) (omega arith) (omega arith) (omega arith)
 
 readable-is-allowed : isAllowed (readable .shown) ≡ true
 readable-is-allowed = chosen-is-allowed 0 0 0 readoutOn 0xFFFFFFFF 0xFF 0 (omega arith) (omega arith) (omega arith) (omega arith) (omega arith) (omega arith)
 
 abbrev image : List ℕ
-image = imageOf form1 readable
+image = imageOf readableContents
 
-image-is-read : readOf form1 image ≡ accepted readable
-image-is-read = image-reads readable readable-is-held readable-is-allowed
+image-is-read : readOf image ≡ accepted readableContents
+image-is-read = image-reads readableContents readable-is-held readable-is-allowed no-name-fits
 
 image-size : length image ≡ imageSize
 image-size = accepted-is-allowed mspm0 image (ap (λ (told : ReadTold). told .number) image-is-read) .1
@@ -179,7 +179,7 @@ unfolding bytesOf
 program-is-fine =
     framed programCore (omega arith) (omega (arith, core-size))
     (each-cons codes.program (bytesOf 4 (mspm0 .«settings_start») ++ image) (omega arith)
-    (each-append (bytesOf 4 (mspm0 .«settings_start»)) image (each-bytesOf 4 (mspm0 .«settings_start»)) (each-of-image readable readable-is-held readable-is-allowed)))
+    (each-append (bytesOf 4 (mspm0 .«settings_start»)) image (each-bytesOf 4 (mspm0 .«settings_start»)) (each-of-image readableContents readable-is-held readable-is-allowed no-name-fits)))
     (λ e. omega arith)
 
 program-is-read : commandOf (packetOf programCore) ≡ command.Guarded (guarded.Program (mspm0 .«settings_start») imageSize false)
@@ -208,13 +208,13 @@ all-blank =
 image-programmed : programOf (mspm0 .«sector_size») (0 ∷ []) 0 image (replicate imageSize 0xFF) ≡ image
 image-programmed =
     program-on-blank (mspm0 .«sector_size») (0 ∷ []) 0 image (replicate imageSize 0xFF) (omega (arith, image-size, length-replicate {A = ℕ} imageSize 0xFF))
-    (each-of-image readable readable-is-held readable-is-allowed) (λ place l u. may-change place)
+    (each-of-image readableContents readable-is-held readable-is-allowed no-name-fits) (λ place l u. may-change place)
     (ap (λ (count : ℕ). allAre 0xFF (part 0 count (replicate imageSize 0xFF))) image-size ∙ all-blank)
     ∙ stored-whole (replicate imageSize 0xFF) image (length-replicate {A = ℕ} imageSize 0xFF ∙ sym image-size)
 
 module _ (main : List ℕ) (size : length main ≡ mainSize) where
   blanked-is-good : Good (blanked main) blankSettings
-  blanked-is-good = record { size = size; window = zeros-size mspm0; read = blank-reads }
+  blanked-is-good = record { size = size; window = zeros-size mspm0; read = ap settingsOnly blank-reads }
 
   program-is-planned : program mspm0 mainSize (blankSettings .protection) (blankSettings .shown .«settings_protected») (mspm0 .«settings_start») imageSize (blanked main)
       ≡ orders codes.success (ProgramSettings 0 imageSize)
@@ -265,7 +265,7 @@ module _ (main window : List ℕ) (size : length main ≡ mainSize) (sized : len
   readableBoard = memory main image window
 
   readable-is-good : Good readableBoard readable
-  readable-is-good = record { size = size; window = sized; read = image-is-read }
+  readable-is-good = record { size = size; window = sized; read = ap settingsOnly image-is-read }
 
   -- the bytes of a region from its first address on are sent whole
   sent-whole : (packet : List ℕ) (place : Region) → isSilent packet ≡ false → length (bytesIn 0 shownCount readableBoard place) ≤ readBackMost

@@ -14,6 +14,7 @@ use Rattle.parts.proofs.PartLaws.{mspm0-is-sound}
 use Rattle.session_state.specs.Phases.{mostSleep, isUnlocked}
 use Rattle.settings.specs.declared.Settings.{Settings}
 use Rattle.settings.specs.Values.{blankSettings}
+use Rattle.settings.specs.Answers.{settingsOnly}
 use Rattle.flash.specs.Memory.{memory}
 use Rattle.session_judge.specs.Unlocking.{alertReset, tried}
 use Rattle.session_act.specs.Board.{settingsProtection}
@@ -143,7 +144,7 @@ module _ (byte main : ℕ) (small : byte < 256) (other : 0x33 ≡ byte → ⊥) 
   blank-then = record {
     size = length-replicate {A = ℕ} (length (board .main)) 0xFF ∙ good-then .size;
     window = zeros-size mspm0;
-    read = rw (settings-size mspm0 mspm0-is-sound board (starts board _ good-then)) blank-reads;
+    read = rw (settings-size mspm0 mspm0-is-sound board (starts board _ good-then)) (ap settingsOnly blank-reads);
   }
 
   -- a password that one of the boards had is wrong then, and that of a blank board is right

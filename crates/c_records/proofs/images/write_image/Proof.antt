@@ -1,6 +1,6 @@
 -- `c_records::images::write_image` meets its contract: the tests of the definition, and then the writer.
 use borrow.Author.Needs.{needs}
-use borrow.Author.Tests.{eq-eqb, ne-eqb}
+use borrow.Author.Tests.{eq-eqb, ne-eqb, not-true, not-false}
 use Rattle.octets.specs.Choice.{pick}
 use Rattle.c_records.specs.SettingsFromC.{writeFromC}
 use Rattle.c_records.proofs.images.write_image.Statement.{statement}
@@ -14,9 +14,12 @@ write-image-spec =
     (λ c. rw (ne-eqb _ _ (c .if1 .taken)))
     (λ c. rw (eq-eqb _ _ (c .before .if1 .left), ne-eqb _ _ (c .if2 .taken)))
     (λ c κs. search needs)
-    (λ c. rw (eq-eqb _ _ (c .before .before .before .if1 .left), eq-eqb _ _ (c .before .before .if2 .left), ← c .before .byte-at .ensures, ne-eqb _ _ (c .if3 .taken)))
+    (λ c κs. search needs)
+    (λ c. rw (eq-eqb _ _ (c .before .before .before .before .if1 .left), eq-eqb _ _ (c .before .before .before .if2 .left), ← c .before .before .number16-at .ensures, ← c .before .is-form-number .ensures, not-true (c .before .is-form-number .result) (c .if3 .taken)))
+    (λ c κs. search needs)
+    (λ c. rw (eq-eqb _ _ (c .before .before .before .before .before .before .if1 .left), eq-eqb _ _ (c .before .before .before .before .before .if2 .left), ← c .before .before .before .before .number16-at .ensures, ← c .before .before .before .is-form-number .ensures, not-false (c .before .before .before .is-form-number .result) (c .before .before .if3 .left), ← c .before .byte-at .ensures, ne-eqb _ _ (c .if4 .taken)))
     (λ c κs. search needs)
     (λ c κs. search needs)
     (λ c κs. search needs)
     (λ c. search needs)
-    (λ c. rw (c .of-write .ensures, eq-eqb _ _ (c .before .before .before .before .before .before .before .before .before .if1 .left), eq-eqb _ _ (c .before .before .before .before .before .before .before .before .if2 .left), ← c .before .before .before .before .before .before .before .byte-at .ensures, eq-eqb _ _ (c .before .before .before .before .before .before .if3 .left), ← c .before .before .before .before .before .read-fields .ensures, ← c .before .before .before .write .ensures)))
+    (λ c. rw (c .of-write .ensures, ← c .before .before .before .before .before .contents-in .ensures, ← c .before .before .before .write .ensures, eq-eqb _ _ (c .before .before .before .before .before .before .before .before .before .before .before .before .if1 .left), eq-eqb _ _ (c .before .before .before .before .before .before .before .before .before .before .before .if2 .left), ← c .before .before .before .before .before .before .before .before .before .before .number16-at .ensures, ← c .before .before .before .before .before .before .before .before .before .is-form-number .ensures, not-false (c .before .before .before .before .before .before .before .before .before .is-form-number .result) (c .before .before .before .before .before .before .before .before .if3 .left), ← c .before .before .before .before .before .before .before .byte-at .ensures, eq-eqb _ _ (c .before .before .before .before .before .before .if4 .left))))

@@ -26,4 +26,4 @@ start-spec =
     (λ c. let small = main-size-is-small _ _ (sym (c .before .before .before .before .is-main-size .ensures) ∙ not-false (c .before .before .before .before .is-main-size .result) (c .before .before .before .if2 .left)) in search needs)
     (λ c κs. search needs)
     (λ c κs. search needs)
-    (λ c. rw (c .before .before .before .before .before .before .before .if1 .left, ← c .before .before .before .before .before .before .is-main-size .ensures, not-false (c .before .before .before .before .before .before .is-main-size .result) (c .before .before .before .before .before .if2 .left), eq-eqb _ _ (c .before .before .before .before .if3 .left), eq-eqb _ _ (c .before .before .if4 .left), c .start-read .ensures, c .before .read .ensures)))
+    (λ c. rw (c .before .before .before .before .before .before .before .if1 .left, ← c .before .before .before .before .before .before .is-main-size .ensures, not-false (c .before .before .before .before .before .before .is-main-size .result) (c .before .before .before .before .before .if2 .left), eq-eqb _ _ (c .before .before .before .before .if3 .left), eq-eqb _ _ (c .before .before .if4 .left), c .start-read .ensures, c .before .read-settings .ensures)))

@@ -2,8 +2,8 @@
 use native.Mathlib.Omega.{arith}
 use borrow.Author.Needs.{needs}
 use mathlib.Core.Path.{sym}
-use Rattle.settings.proofs.LayoutLaws.{field-zero, offset-small, length-small}
-use Rattle.settings.specs.Layout.{form1}
+use Rattle.settings.specs.Layout.{layoutOf, lengthOf, offsetOf}
+use Rattle.settings.proofs.LayoutLaws.{field-zero, one-of-seven}
 use Rattle.settings.proofs.places.entry_field.Statement.{statement}
 use Rattle.settings.proofs.places.entry_field.Tie as tie
 
@@ -13,10 +13,18 @@ entry-field-spec =
     (tie.spec
     (λ c. search needs)
     (λ c κs. search needs)
-    (λ c. record { fits = omega (arith, c .offset-of .ensures, offset-small (c .before .before .args .entry)) })
-    (λ c κs. search needs)
-    (λ c. record { fits = omega (arith, c .length-of .ensures, length-small (c .before .before .args .entry)) })
     (λ c. search needs)
-    (λ c. rw (c .before .match .keys2, c .offset-of .ensures))
-    (λ c. rw (c .before .match .keys3, c .length-of .ensures))
-    (λ c. let a = c .before .args in sym (field-zero form1 (a .entry) (a .field) (omega arith))))
+    (λ c. search needs)
+    (λ c. search needs)
+    (λ c κs. search needs)
+    (λ c. search needs)
+    (λ c. search needs)
+    (λ c. search needs)
+    (λ c. search needs)
+    (λ c.
+    let a = c .before .before .args in
+    rw (c .before .match .keys2, c .offsets .ensures) (one-of-seven (offsetOf (layoutOf (a .form))) (a .entry) (omega arith) (omega arith)))
+    (λ c.
+    let a = c .before .before .args in
+    rw (c .before .match .keys3, c .lengths .ensures) (one-of-seven (lengthOf (layoutOf (a .form))) (a .entry) (omega arith) (omega arith)))
+    (λ c. let a = c .before .args in sym (field-zero (layoutOf (a .form)) (a .entry) (a .field) (omega arith))))

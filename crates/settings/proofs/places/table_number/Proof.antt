@@ -2,8 +2,8 @@
 use native.Mathlib.Omega.{arith}
 use borrow.Author.Needs.{needs}
 use mathlib.Core.Path.{sym, _∙_}
-use Rattle.settings.specs.Layout.{form1, tableOf}
-use Rattle.settings.proofs.LayoutLaws.{table-at}
+use Rattle.settings.specs.Layout.{layoutOf, tableOf}
+use Rattle.settings.proofs.LayoutLaws.{table-at, count-is-few}
 use Rattle.settings.proofs.places.table_number.Statement.{statement}
 use Rattle.settings.proofs.places.table_number.Tie as tie
 
@@ -12,13 +12,15 @@ unfolding tableOf
 table-number-spec =
     tie.close
     (tie.spec
-    (λ c. rw (c .if1 .taken))
-    (λ c. search needs)
-    (λ c. rw (c .if2 .taken))
-    (λ c. search needs)
-    (λ c. search needs)
-    (λ c. search needs)
     (λ c κs. search needs)
+    (λ c. rw (c .before .if1 .taken, c .form-number .ensures))
+    (λ c κs. search needs)
+    (λ c. record { fits = omega (arith, c .entries-of .ensures, count-is-few (c .before .before .before .args .form)) })
+    (λ c. rw (c .before .if2 .taken, c .entries-of .ensures))
+    (λ c. search needs)
+    (λ c. search needs)
+    (λ c. search needs)
+    (λ c κs. (omega arith, omega (arith, count-is-few (c .before .before .args .form))))
     (λ c.
-    let place = c .before .before .before .args .place in
-    c .entry-field .ensures ∙ sym (table-at form1 place (omega arith) (omega arith))))
+    let a = c .before .before .before .args in
+    c .entry-field .ensures ∙ sym (table-at (layoutOf (a .form)) (a .place) (omega arith) (omega arith))))

@@ -1,21 +1,23 @@
--- `settings::reader::read` meets its contract: the size, then a blank image, then any other.
+-- `settings::reader::read` meets its contract: as the image is found to be.
+use mathlib.Core.Path.{sym, _∙_}
 use borrow.Author.Needs.{needs}
-use borrow.Author.Tests.{eq-eqb, ne-eqb}
-use Rattle.octets.specs.Choice.{pick}
 use Rattle.settings.specs.Reader.{readOf}
+use Rattle.settings.proofs.PassingLaws.{written-has-passed}
 use Rattle.settings.proofs.reader.read.Statement.{statement}
 use Rattle.settings.proofs.reader.read.Tie as tie
 
 pub read-spec : {M : Type 1} → statement M
-unfolding readOf pick
+unfolding readOf
 read-spec =
     tie.close
     (tie.spec
     (λ c κs. search needs)
-    (λ c. rw (ne-eqb _ _ (c .before .if1 .taken), c .refused .ensures))
+    (λ c. search needs)
     (λ c κs. search needs)
+    (λ c. search needs)
+    (λ c κs. written-has-passed _ _ _ (sym (c .before .before .before .check .ensures) ∙ c .before .checked .given .1) .size)
+    (λ c. search needs)
     (λ c κs. search needs)
-    (λ c κs. search needs)
-    (λ c. rw (eq-eqb _ _ (c .before .before .before .before .if1 .left), ← c .before .before .before .all-are .ensures, c .before .before .if2 .taken, c .accepting .ensures, c .before .blank .ensures))
-    (λ c κs. search needs)
-    (λ c. rw (eq-eqb _ _ (c .before .before .before .if1 .left), ← c .before .before .all-are .ensures, c .before .if2 .left, c .read-written .ensures)))
+    (λ c. rw (← c .before .before .before .check .ensures, c .before .enum-told .given .1, c .blank-contents .ensures))
+    (λ c. rw (← c .before .before .before .before .check .ensures, c .before .before .checked .given .1, c .contents-in .ensures))
+    (λ c. rw (← c .before .before .before .before .check .ensures, c .before .before .checked2 .given .1, c .no-contents .ensures)))

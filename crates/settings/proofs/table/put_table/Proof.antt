@@ -7,18 +7,19 @@ use mathlib.Core.List.{[]}
 use lib.ListN.{length, drop, drop-of-length-le}
 use lib.Seq.{sets, length-sets}
 use Rattle.octets.specs.Number.{bytesOf}
-use Rattle.settings.specs.Layout.{form1, tableOf, pairsOf}
+use Rattle.settings.specs.Layout.{layoutOf, tableOf, pairsOf}
+use Rattle.settings.proofs.LayoutLaws.{count-is-few}
 use Rattle.settings.proofs.TableLaws.{length-table, put-next}
 use Rattle.settings.proofs.table.put_table.Statement.{statement}
 use Rattle.settings.proofs.table.put_table.Tie as tie
 
 abbrev Inv-loop : tie.InvT-loop
-Inv-loop image₀ place₀ image place =
-    (place ≤ 26) × (length (tableOf form1) ≡ 26) × (length image ≡ length image₀)
-    × (sets image (2 * place) (pairsOf (drop place (tableOf form1))) ≡ sets image₀ 0 (pairsOf (tableOf form1)))
+Inv-loop form image₀ count place₀ image place =
+    (place ≤ count) × (length (tableOf (layoutOf form)) ≡ count) × (count ≤ 30) × (length image ≡ length image₀)
+    × (sets image (2 * place) (pairsOf (drop place (tableOf (layoutOf form)))) ≡ sets image₀ 0 (pairsOf (tableOf (layoutOf form))))
 
 abbrev μ-loop : tie.MeasureT-loop
-μ-loop image₀ place₀ image place = 26 - place
+μ-loop form image₀ count place₀ image place = count - place
 
 pub put-table-spec : {M : Type 1} → statement M
 unfolding pairsOf
@@ -27,23 +28,32 @@ put-table-spec =
     (tie.spec
     Inv-loop
     μ-loop
-    (λ c. (omega arith, length-table form1, refl, refl))
-    (λ c κs. omega arith)
+    (λ c κs. search needs)
+    (λ c. omega (arith, c .entries-of .ensures, count-is-few (c .before .before .args .form)))
+    (λ c. omega (arith, c .entries-of .ensures, count-is-few (c .before .before .args .form)))
+    (λ c.
+    let e = c .entries-of .ensures in
+    let form = c .before .before .args .form in
+    (omega arith, omega (arith, length-table (layoutOf form), e), omega (arith, e, count-is-few form), refl, refl))
+    (λ c κs. let e = c .before .before .entries-of .ensures in omega (arith, e))
     (λ c. omega arith)
     (λ c. search needs)
     (λ c κs. search needs)
     (λ c. omega arith)
     (λ c. omega arith)
     (λ c.
+    let table = tableOf (layoutOf (c .before .before .before .before .before .before .before .before .before .args .form)) in
     let l = c .before .before .before .before .before .before .loop in
     let p = c .before .before .put-number in (
       omega arith,
       l .inv .1,
+      l .inv .2,
       omega (arith, ap length (p .ensures), length-sets (l .image) (2 * l .place) (bytesOf 2 (c .before .before .before .before .table-number .result))),
-      rw (p .ensures, c .before .before .before .before .table-number .ensures) (sym (put-next (l .image) (tableOf form1) (l .place) (omega arith)) ∙ l .inv .3),
+      rw (p .ensures, c .before .before .before .before .table-number .ensures) (sym (put-next (l .image) table (l .place) (omega arith)) ∙ l .inv .4),
     ))
     (λ c. omega arith)
     (λ c.
+    let table = tableOf (layoutOf (c .before .before .before .before .args .form)) in
     let l = c .before .loop in
-    let none : drop (l .place) (tableOf form1) ≡ [] = drop-of-length-le (tableOf form1) {i = l .place} (omega arith) in
-    rw none at (l .inv .3)))
+    let none : drop (l .place) table ≡ [] = drop-of-length-le table {i = l .place} (omega arith) in
+    rw none at (l .inv .4)))
