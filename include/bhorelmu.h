@@ -24,8 +24,9 @@
  *  - each call is lent the record that the call before it left, and both flash areas and the window as that call left
  *    them; no function here clears the window;
  *  - each start is lent a window of zeros: what one session left there the next could read;
- *  - where the flash areas are copies, what a call has erased is carried over MAIN first and the settings last, as it is
- *    done in the areas: a cut of the power between the two must not leave a public password beside names in MAIN;
+ *  - where the flash areas are copies, what a call has erased is carried over MAIN first and the settings last (the source
+ *    erases so in the areas; no proof says it): a cut of the power between the two must not leave a public password
+ *    beside names in MAIN;
  *  - the wait of a refused call is added to the next wait, for the record has not moved;
  *  - a reply is sent at the rate that the record had before the call, and the next packet is received at the rate it
  *    has after it;
@@ -34,9 +35,10 @@
  *    machine code (thumbv6m: -O2); memset and the like come on top;
  *  - only the bytes of a reply leave the board: a record holds both passwords;
  *  - before the application runs, or anything else that is not to know the passwords, the caller clears the record, the
- *    reply area, the packet's area and the stack below its own: after a call both passwords stand in the record, bytes
- *    that were read back may stand in the reply area, a password that was sent in the packet's, and copies of the record
- *    in the dead stack. No function here clears any of them;
+ *    reply area, the packet's area, the fields area and the stack below its own: after a call both passwords stand in the
+ *    record, bytes that were read back may stand in the reply area, a password that was sent in the packet's, both
+ *    passwords and the name in the fields, and copies of the record in the dead stack. No function here clears any of
+ *    them;
  *  - one record is one session: who starts again gets a new count and a new total of wrong passwords.
  */
 

@@ -20,7 +20,7 @@ from wrong_programs import Misuse, files_of, functions_of, programs_in
 ERROR = re.compile(r"^(.+?):\d+:\d+: error: .*", re.M)
 OPEN = re.compile(r"^fn (\S+): no proof: .*does not close.*", re.M)
 ECHO = "was not admitted"
-UNFIT = re.compile("that can be named from here|has no field|binders, but its type has room|is not in scope")
+UNFIT = re.compile("that can be named from here|has no field|binders, but its type has room|is not in scope|it is not inferred")
 LONGEST = 300
 
 

@@ -122,7 +122,8 @@ static void judge(struct play *play, bool alike, const char *move, size_t size)
 {
     play->moves++;
     play->apart = !alike || (play->kind == OPEN_BOARDS && play->over && !holds_alike(&play->pair));
-    if (play->kind == ADVISED_BOARDS && play->pair.on && play->pair.one.record[LOCK_AT] != 0)
+    bool locked = play->kind == ADVISED_BOARDS || (play->kind == ANY_BOARDS && !play->over);
+    if (locked && play->pair.on && play->pair.one.record[LOCK_AT] != 0)
         play->apart = true;
     if (is_covered(play))
         print_move(play, move, size);
