@@ -1,14 +1,16 @@
 # The commands of the README; `make` alone lists them. What the prover says goes to target/rt_*.log.
-.PHONY: help test quick run show limits vectors lib install compare mutants bench stack statement index picture
+.PHONY: help test quick run mend show limits vectors lib install compare mutants bench stack statement index picture
 
 PREFIX ?= /usr/local
 N ?= 200000
 SCRIPT ?= crates/runner/stdin
+IMAGE ?=
+OUT ?=
 SCOPE ?= ../shared/documents/01-scope.md
 REQUESTS ?= ../shared/documents/02-change-requests.md
 
 # Handed on by the environment, where a space or a quote in them does no harm.
-export PREFIX DESTDIR N SCRIPT SCOPE REQUESTS
+export PREFIX DESTDIR N SCRIPT IMAGE OUT SCOPE REQUESTS
 
 help:
 	@sed "s/{crates}/$$(grep -c '^[a-z_0-9]*:' crates.txt)/" tools/help.txt
@@ -27,6 +29,12 @@ run:
 	@tools/sessions/look_at_script.sh "$$SCRIPT"
 	@tools/progress.py check runner
 	@tools/sessions/run_script.sh "$$SCRIPT"
+
+# A settings image mended: proves and builds the program, prints what it changed of IMAGE, and stores the mended image as OUT.
+mend:
+	@tools/mend/look_at_files.sh "$$IMAGE" "$$OUT"
+	@tools/progress.py check mend
+	@tools/mend/mend_image.sh "$$IMAGE" "$$OUT"
 
 # The settings reader and writer at work: proves the program and prints what it wrote.
 show:

@@ -8,8 +8,8 @@
 #include <stddef.h>
 #include <stdint.h>
 
-#define BHORELMU_VERSION "4.0.0"
-#define BHORELMU_VERSION_NUMBER 40000 /* 10,000 for each major version, 100 for each minor, 1 for each patch */
+#define BHORELMU_VERSION "4.1.0"
+#define BHORELMU_VERSION_NUMBER 40100 /* 10,000 for each major version, 100 for each minor, 1 for each patch */
 
 /*
  * The device side of one boot loader session, on numbers and byte areas. docs/RECORD.md tells the same at length, and
@@ -53,6 +53,7 @@ extern "C" {
 #define BHORELMU_RECORD_SIZE 94u
 #define BHORELMU_FIELDS_SIZE 140u
 #define BHORELMU_NAME_SIZE 64u
+#define BHORELMU_COUNTS_SIZE 8u
 
 /* Where the parts of a record stand. */
 #define BHORELMU_RECORD_PHASE 0u
@@ -79,6 +80,12 @@ extern "C" {
 #define BHORELMU_FIELD_PROTECTION 66u         /* 8 bytes, a bit a sector; bit 0 of the first is sector 0, and 1 keeps it */
 #define BHORELMU_FIELD_NAME 74u               /* 64 bytes; all 0xFF: none */
 #define BHORELMU_FIELD_FORM 138u              /* 2 bytes: the form of the image, 1 or 2 */
+
+/* Where the counts stand in an area of counts, 2 bytes each. */
+#define BHORELMU_COUNT_TABLE 0u
+#define BHORELMU_COUNT_FILLER 2u
+#define BHORELMU_COUNT_VALUES 4u
+#define BHORELMU_COUNT_CHECKSUM 6u
 
 /* The values of reset mode: whether Factory reset is obeyed. */
 enum bhorelmu_reset_mode { BHORELMU_RESET_OFF, BHORELMU_RESET_ON, BHORELMU_RESET_WITH_PASSWORD };
@@ -109,7 +116,7 @@ enum bhorelmu_refusal_number {
     BHORELMU_FILLER_DIFFERS = 7,
     BHORELMU_VALUE_NOT_ALLOWED = 8,
     BHORELMU_REPLY_AREA_TOO_SMALL = 9,
-    BHORELMU_RECORD_NOT_VALID = 10, /* also: a fields area of another size */
+    BHORELMU_RECORD_NOT_VALID = 10, /* also: a fields or counts area of another size */
     BHORELMU_WINDOW_SIZE_WRONG = 11,
     BHORELMU_NAME_NOT_EMPTY = 41    /* a name for which form 1 has no place */
 };
@@ -145,23 +152,34 @@ uint64_t bhorelmu_settings_read(const uint8_t *image, size_t image_size, uint8_t
 /*
  * Makes a settings image around 140 bytes of fields, in the form that they name. Refusals 3, then 10 for a fields area of
  * another size, then 5 for a form that is neither 1 nor 2, then 8, then 41 for a name in form 1.
- * Stack: 672 bytes on x86-64, 656 on thumbv6m.
+ * Stack: 672 bytes on x86-64, 676 on thumbv6m.
  */
 uint64_t bhorelmu_settings_write(const uint8_t *fields, size_t fields_size, uint8_t *image, size_t image_size);
 
 /*
  * Moves a settings image of form 1 to form 2, where it lies, with a name of 0xFF. A blank image stays as it is. Refusals 3
  * to 8; 5 also for an image of form 2.
- * Stack: 624 bytes on x86-64, 720 on thumbv6m.
+ * Stack: 624 bytes on x86-64, 740 on thumbv6m.
  */
 uint64_t bhorelmu_settings_to_form_2(uint8_t *image, size_t image_size);
 
 /*
  * Moves a settings image of form 2 back to form 1, where it lies. A blank image stays as it is. Refusals 3 to 8, then 41 for
  * a name that is not all 0xFF; 5 also for an image of form 1.
- * Stack: 816 bytes on x86-64, 720 on thumbv6m.
+ * Stack: 816 bytes on x86-64, 740 on thumbv6m.
  */
 uint64_t bhorelmu_settings_to_form_1(uint8_t *image, size_t image_size);
+
+/*
+ * Mends a settings image that the reader does not accept, where it lies, as one of form 1: bodies 1, 2, 4, 5 and 6 stay,
+ * table and filler are put right, the values of body 3 that are not allowed become those of a blank image, and the
+ * checksum is written. Stores how many bytes were changed, two bytes for each count. An image that the reader accepts stays
+ * as it is, with counts of 0. Refusals 3, then 5 for an image that is not accepted and begins with form 2 and count 7, then
+ * 10 for a counts area of another size. A bad byte in a kept body, a password's among them, cannot be seen, and the new
+ * checksum seals it: docs/DEPOT.md.
+ * Stack: 432 bytes on x86-64, 464 on thumbv6m.
+ */
+uint64_t bhorelmu_settings_mend(uint8_t *image, size_t image_size, uint8_t *counts, size_t counts_size);
 
 /* Bits a second of rate ids 1 to 9; 0 for any other id. Stack: 48 bytes on x86-64, 40 on thumbv6m. */
 uint32_t bhorelmu_rate(uint32_t id);

@@ -1,5 +1,5 @@
 /* Checks of the C boundary: each refusal and their order, each byte of a record, sizes one off, what stays untouched,
-   protected places, the total of wrong passwords, the window, and both forms of a settings image. */
+   protected places, the total of wrong passwords, the window, both forms of a settings image, and mending. */
 
 #include "bhorelmu.h"
 
@@ -350,6 +350,70 @@ static void check_forms(void)
     check("to itself", 0, (unsigned)memcmp(&again, &areas, sizeof again) != 0);
 }
 
+/* Mends an image, and looks at the answer and at the counts. */
+static void mends(const char *what, uint8_t *image, unsigned table, unsigned filler, unsigned values, unsigned checksum)
+{
+    uint8_t counts[BHORELMU_COUNTS_SIZE], image_again[BHORELMU_SETTINGS_SIZE];
+    check(what, 0, bhorelmu_settings_mend(image, BHORELMU_SETTINGS_SIZE, counts, sizeof counts));
+    check("table", table, counts[BHORELMU_COUNT_TABLE] + 256u * counts[BHORELMU_COUNT_TABLE + 1]);
+    check("filler", filler, counts[BHORELMU_COUNT_FILLER] + 256u * counts[BHORELMU_COUNT_FILLER + 1]);
+    check("values", values, counts[BHORELMU_COUNT_VALUES] + 256u * counts[BHORELMU_COUNT_VALUES + 1]);
+    check("checksum", checksum, counts[BHORELMU_COUNT_CHECKSUM] + 256u * counts[BHORELMU_COUNT_CHECKSUM + 1]);
+    memcpy(image_again, image, sizeof image_again);
+    check("mended again", 0, bhorelmu_settings_mend(image, BHORELMU_SETTINGS_SIZE, counts, sizeof counts));
+    check("nothing is changed", 0, (unsigned)memcmp(image_again, image, sizeof image_again) != 0);
+    for (size_t i = 0; i < sizeof counts; i++)
+        check("and none is counted", 0, counts[i]);
+}
+
+static void check_mending(void)
+{
+    struct areas whole = board_with_byte(FIELDS_AT + BHORELMU_FIELD_READOUT, 0x42), areas = whole;
+    areas.settings[6] ^= 0xFF;
+    mends("a bad byte of the table", areas.settings, 1, 0, 0, 0);
+    check("is put right", 0, (unsigned)memcmp(&whole, &areas, sizeof whole) != 0);
+    areas.settings[126] = areas.settings[1019] = 0;
+    mends("two of the filler", areas.settings, 0, 2, 0, 0);
+    check("are put right", 0, (unsigned)memcmp(&whole, &areas, sizeof whole) != 0);
+    areas.settings[1020] ^= 0xFF;
+    mends("one of the checksum", areas.settings, 0, 0, 0, 1);
+    check("is put right", 0, (unsigned)memcmp(&whole, &areas, sizeof whole) != 0);
+    areas.settings[100] = areas.settings[101] = 3;
+    areas.settings[104] = 2;
+    areas.settings[105] = 1;
+    mends("four values", areas.settings, 0, 0, 4, 0);
+    check("are those of a blank board", 0, (unsigned)memcmp(&whole, &areas, sizeof whole) != 0);
+    areas.settings[FIELDS_AT] ^= 0xFF;
+    mends("a byte of the password", areas.settings, 0, 0, 0, 4);
+    check("is kept", whole.settings[FIELDS_AT] ^ 0xFFu, areas.settings[FIELDS_AT]);
+    areas = blank_board();
+    mends("blank", areas.settings, 0, 0, 0, 0);
+    areas.settings[500] = 0;
+    mends("blank but for a byte", areas.settings, 52, 1, 4, 4);
+    check("every sector is protected", 0xFF, areas.settings[118] & areas.settings[125]);
+}
+
+static void check_mending_refused(void)
+{
+    uint8_t counts[BHORELMU_COUNTS_SIZE + 1];
+    struct areas areas = named_board(), named;
+    mends("form 2", areas.settings, 0, 0, 0, 0);
+    areas.settings[200] = 0;
+    named = areas;
+    memset(counts, 0x5A, sizeof counts);
+    check("damaged form 2", 5ULL << 56, bhorelmu_settings_mend(areas.settings, 1024, counts, sizeof counts));
+    check("one byte more", 3ULL << 56, bhorelmu_settings_mend(areas.settings, 1025, counts, sizeof counts));
+    check("all is as it was", 0, (unsigned)memcmp(&named, &areas, sizeof named) != 0);
+    areas.settings[0] = 7;
+    named = areas;
+    check("no room for the counts", 10ULL << 56, bhorelmu_settings_mend(areas.settings, 1024, counts, sizeof counts));
+    check("too little", 10ULL << 56, bhorelmu_settings_mend(areas.settings, 1024, counts, 7));
+    check("nothing is mended", 0, (unsigned)memcmp(&named, &areas, sizeof named) != 0);
+    for (size_t i = 0; i < sizeof counts; i++)
+        check("nothing is counted", 0x5A, counts[i]);
+    mends("form 2 taken for form 1", areas.settings, 8, 73, 4, 4);
+}
+
 /* The names of the fields and of their values, by what a board with such fields does. */
 static void check_field_names(void)
 {
@@ -631,6 +695,8 @@ int main(void)
     check_layout();
     check_fields();
     check_forms();
+    check_mending();
+    check_mending_refused();
     check_field_names();
     check_refused_places();
     check_skipped_places();

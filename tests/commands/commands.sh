@@ -73,6 +73,23 @@ refuses "cannot be read" $nobody "$work/look" "$work/unreadable"
 printf '0 12\n' >"$work/two words.txt"
 tools/sessions/look_at_script.sh "$work/two words.txt" || complain "a name with a space is not taken"
 
+refuses "no image is named" make mend
+refuses "there is no such file" make mend IMAGE="$work/missing" OUT="$work/out"
+refuses "a folder or a device" make mend IMAGE="$work" OUT="$work/out"
+refuses "no file is named for the mended image" make mend IMAGE="$work/empty"
+refuses "this is the image itself" make mend IMAGE="$work/empty" OUT="$work/empty"
+ln -s empty "$work/link"
+refuses "this is the image itself" make mend IMAGE="$work/empty" OUT="$work/link"
+refuses "a folder or a device" make mend IMAGE="$work/empty" OUT="$work"
+refuses "this is the image itself" make mend IMAGE="$work/empty" OUT="$work/bin/../empty"
+refuses "there is no folder" make mend IMAGE="$work/empty" OUT="$work/none/out"
+refuses "this names a folder" make mend IMAGE="$work/empty" OUT="$work/none/"
+cp tools/mend/look_at_files.sh "$work/look_at_files"
+refuses "cannot be read" $nobody "$work/look_at_files" "$work/unreadable" "$work/out"
+refuses "nothing can be written to" $nobody "$work/look_at_files" "$work/script.txt" "$work/out"
+refuses "this file cannot be written to" $nobody "$work/look_at_files" "$work/script.txt" "$work/unreadable"
+[ ! -e "$work/out" ] || complain "make mend: a refused call has made a file"
+
 refuses "no place is named" make install PREFIX=
 refuses "write the folder out" make install PREFIX='~/here'
 refuses "is not taken; name another" make install PREFIX='/tmp/a"b'

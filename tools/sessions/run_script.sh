@@ -4,8 +4,6 @@
 #     tools/sessions/run_script.sh FILE
 #
 # FILE is a script, or, where its name ends in .txt, the text of one (tools/sessions/make_script.py).
-#
-# The program is for x86-64. It runs as `rt` runs it: with the toolchain's own C library, and on another machine under its emulator.
 set -eu
 case ${1:-} in -h | --help) exec sed -n '2,/^[^#]/s/^# \{0,1\}//p' "$0" ;; esac
 [ $# -eq 1 ] || {
@@ -13,13 +11,11 @@ case ${1:-} in -h | --help) exec sed -n '2,/^[^#]/s/^# \{0,1\}//p' "$0" ;; esac
     exit 2
 }
 root=$(cd "$(dirname "$0")/../.." && pwd)
+. "$root/tools/shared/program.sh"
 [ -f "$root/target/bin/runner" ] || {
     echo "the runner is not built; 'make run' builds it" >&2
     exit 2
 }
-kit=$(dirname "$(dirname "$(rt doc)")")/on/$(uname -m)/toolchain
-emulator=$kit/bin/qemu-x86_64
-[ -x "$emulator" ] || emulator=
 script=$1
 case $script in
 *.txt)
@@ -28,7 +24,7 @@ case $script in
     "$root/tools/sessions/make_script.py" "$1" "$script"
     ;;
 esac
-$emulator "$kit/lib/ld-linux-x86-64.so.2" --library-path "$kit/lib" "$root/target/bin/runner" <"$script" | {
+run_program "$root" runner <"$script" | {
     IFS= read -r first && printf '%s\n' "$first" && cat
     [ "$first" != "bad script" ] || exit 1
 }

@@ -9,7 +9,8 @@ trap 'rm -rf "$work"' EXIT
 compile="$cc -w $comparison_headers -Iverification/model"
 names="-Dmodel_start=bhorelmu_start -Dmodel_call=bhorelmu_call -Dmodel_settings_read=bhorelmu_settings_read
     -Dmodel_settings_write=bhorelmu_settings_write -Dmodel_settings_to_form_2=bhorelmu_settings_to_form_2
-    -Dmodel_settings_to_form_1=bhorelmu_settings_to_form_1 -Dmodel_rate=bhorelmu_rate"
+    -Dmodel_settings_to_form_1=bhorelmu_settings_to_form_1 -Dmodel_settings_mend=bhorelmu_settings_mend
+    -Dmodel_rate=bhorelmu_rate"
 
 for source in $comparison_sources; do
     $compile -c "$source" -o "$work/$(basename "$source" .c).o" || exit 2
@@ -193,6 +194,34 @@ refused move leaves a new table@/^uint64_t model_settings_to_form_1/,/^}/s/^    
 move forth takes form 2@/^uint64_t model_settings_to_form_2/,/^}/s/{&form_1, NULL}/{\&form_1, \&form_2, NULL}/
 move back takes form 1@/^uint64_t model_settings_to_form_1/,/^}/s/{&form_2, NULL}/{\&form_2, \&form_1, NULL}/
 move keeps the old checksum@s/    put32(image + CHECKSUM_AT, checksum(image, CHECKSUM_AT));/    if (get16(image) == 2) &/
+mending: 5 before 3@/^uint64_t model_settings_mend/,/^}/s/^    if (image_size != SETTINGS_SIZE)$/    if (!accepted \&\& image_size >= 4 \&\& get16(image) == 2 \&\& get16(image + 2) == 7) return refused(5);\n&/
+mending: 10 before 5@/^uint64_t model_settings_mend/,/^}/s/^    if (!accepted && get16/    if (counts_size != COUNTS_SIZE) return refused(10);\n&/
+mending: 10 before 3@/^uint64_t model_settings_mend/,/^}/s/^    if (image_size != SETTINGS_SIZE)$/    if (counts_size != COUNTS_SIZE) return refused(10);\n&/
+mending: a damaged form 2 mended as form 1@/^uint64_t model_settings_mend/,/^}/s/if (!accepted && get16.*/if (0)/
+mending: form 2 refused by its number alone@/^uint64_t model_settings_mend/,/^}/s/ && get16(image + 2) == form_2.entry_count//
+mending: a whole form 2 refused@/^uint64_t model_settings_mend/,/^}/s/if (!accepted && get16(image)/if (!(accepted \&\& form != \&form_2) \&\& get16(image)/
+mending: blank rewritten@/^uint64_t model_settings_mend/,/^}/s/^    if (!accepted) {/    if (!accepted || form == NULL) {/
+mending: form 2 rewritten as form 1@/^uint64_t model_settings_mend/,/^}/s/^    if (!accepted) {/    if (!accepted || form == \&form_2) {/
+mending: mended where the counts have no room@/^uint64_t model_settings_mend/,/^}/s/^    if (counts_size != COUNTS_SIZE)$/    if (counts_size != COUNTS_SIZE \&\& !accepted) { read_fields(\&form_1, image, fields); mend_body_3(fields); write_image(\&form_1, fields, image); }\n&/
+mending: readout set to its blank value@/^static void mend_body_3/,/^}/s/^    fields\[ZERO\] = 0;/&\n    put16(fields + READOUT, 0xFFFF);/
+mending: zero byte left@/^static void mend_body_3/,/^}/s/^    fields\[ZERO\] = 0;//
+mending: zero byte not counted@s/BODY_3_SIZE = 6/BODY_3_SIZE = 5/
+mending: reset mode becomes 0@/^static void mend_body_3/,/^}/s/= blank_fields\[RESET_MODE\]/= RESET_OFF/
+mending: alert becomes 1@/^static void mend_body_3/,/^}/s/= blank_fields\[ALERT\]/= ALERT_RESET/
+mending: settings protected becomes 1@/^static void mend_body_3/,/^}/s/= blank_fields\[SETTINGS_PROTECTED\]/= 1/
+mending: alert 3 left@/^static void mend_body_3/,/^}/s/fields\[ALERT\] > ALERT_DISABLE/fields[ALERT] > ALERT_DISABLE + 1/
+mending: allowed values set to blank ones too@/^static void mend_body_3/,/^}/s/^    if (fields\[RESET_MODE\] > .*/    if (1)/
+mending: body 6 set to its blank value@/^static void mend_body_3/,/^}/s/^    fields\[ZERO\] = 0;/&\n    memset(fields + PROTECTION, 0, 8);/
+mending: ids set to their blank values@/^static void mend_body_3/,/^}/s/^    fields\[ZERO\] = 0;/&\n    memcpy(fields + IDS, blank_fields + IDS, 8);/
+mending: checksum counted as one@/^uint64_t model_settings_mend/,/^}/s/put_changed(counts + 6, .*/put16(counts + 6, memcmp(before + CHECKSUM_AT, image + CHECKSUM_AT, 4) != 0);/
+mending: checksum not counted@/^uint64_t model_settings_mend/,/^}/s/put_changed(counts + 6, before, image, CHECKSUM_AT/put_changed(counts + 6, before, image, SETTINGS_SIZE/
+mending: filler counted from 198@/^uint64_t model_settings_mend/,/^}/s/image, form_1.filler_at, CHECKSUM_AT/image, form_2.filler_at, CHECKSUM_AT/
+mending: last filler byte not counted@/^uint64_t model_settings_mend/,/^}/s/image, form_1.filler_at, CHECKSUM_AT/image, form_1.filler_at, CHECKSUM_AT - 1/
+mending: last byte of the table not counted@/^uint64_t model_settings_mend/,/^}/s/image, 0, form_1.bodies_at/image, 0, form_1.bodies_at - 1/
+mending: counts with the most significant byte first@/^static void put_changed/,/^}/s/put16(count, changed)/put16(count, changed << 8 | changed >> 8)/
+mending: counts of one byte@/^static void put_changed/,/^}/s/put16(count, changed)/put16(count, changed \& 0xFF)/
+mending: counts kept where nothing changed@/^uint64_t model_settings_mend/,/^}/s/^    memcpy(before, image, SETTINGS_SIZE);/    if (accepted) return 0;\n&/
+counts size cut to a byte@s/counts_size != COUNTS_SIZE/(uint8_t)counts_size != COUNTS_SIZE/
 record unlocked and asleep taken@s/if (unlocked && sleep > 0)/if (0)/
 record with idle 10,000 taken@s/get32(record + AT_IDLE) >= IDLE_LIMIT/get32(record + AT_IDLE) > IDLE_LIMIT/
 record with lock 2 taken@s/ || record\[AT_LOCK\] > 1)/ || record[AT_LOCK] > 2)/

@@ -87,7 +87,7 @@ static void prepare(struct sides *sides, const struct step *step)
         set_bytes(sides, AREA_RECORD, step->data, step->data_size);
     if (step->kind == CALL_START && step->fill != 0)
         set_noise(sides, AREA_RECORD, step->fill);
-    if (step->kind == CALL_READ)
+    if (step->kind == CALL_READ || step->kind == CALL_MEND)
         set_noise(sides, AREA_FIELDS, step->fill);
     if (step->kind == CALL_WRITE)
         set_bytes(sides, AREA_FIELDS, step->data, step->data_size);
@@ -127,6 +127,10 @@ static void perform(struct side *side, const struct loader_functions *loader, co
         break;
     case CALL_TO_1:
         side->answer = loader->settings_to_form_1(area[AREA_SETTINGS], step->settings_size);
+        break;
+    case CALL_MEND:
+        side->answer =
+            loader->settings_mend(area[AREA_SETTINGS], step->settings_size, area[AREA_FIELDS], step->fields_size);
         break;
     case CALL_RATE:
         side->answer = loader->rate(step->number);

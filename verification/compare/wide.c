@@ -9,17 +9,17 @@
 #include <string.h>
 
 /* The front of the one wide area is all that is touched, so that no memory need stand behind the rest. */
-enum { FRONT = 8192, MAIN_SIZE = 4096, ANSWERS = 6 };
+enum { FRONT = 8192, MAIN_SIZE = 4096, ANSWERS = 7 };
 
-enum { WIDE_MAIN, WIDE_SETTINGS, WIDE_WINDOW, WIDE_RECORD, WIDE_PACKET, WIDE_REPLY, WIDE_FIELDS, WIDE_KINDS };
+enum { WIDE_MAIN, WIDE_SETTINGS, WIDE_WINDOW, WIDE_RECORD, WIDE_PACKET, WIDE_REPLY, WIDE_FIELDS, WIDE_COUNTS, WIDE_KINDS };
 
-static const char *const names[WIDE_KINDS] = {"MAIN", "settings", "window", "record", "packet", "reply", "fields"};
+static const char *const names[WIDE_KINDS] = {"MAIN", "settings", "window", "record", "packet", "reply", "fields", "counts"};
 static const size_t sizes[WIDE_KINDS] = {MAIN_SIZE, SETTINGS_BYTES, WINDOW_BYTES, RECORD_BYTES,
-                                         8,         REPLY_LEAST,    FIELDS_BYTES};
+                                         8,         REPLY_LEAST,    FIELDS_BYTES, COUNTS_BYTES};
 
 /* What a size that is cut becomes: the right size, or for a reply area, which may be larger, too small a one. */
 static const size_t cut_sizes[WIDE_KINDS] = {MAIN_SIZE, SETTINGS_BYTES,  WINDOW_BYTES, RECORD_BYTES,
-                                             8,         REPLY_LEAST - 1, FIELDS_BYTES};
+                                             8,         REPLY_LEAST - 1, FIELDS_BYTES, COUNTS_BYTES};
 
 struct lent {
     uint8_t *area[WIDE_KINDS];
@@ -38,6 +38,8 @@ static void call_all(const struct loader_functions *loader, const struct lent *l
     answers[3] = loader->settings_write(LENT(lent, WIDE_FIELDS), LENT(lent, WIDE_SETTINGS));
     answers[4] = loader->settings_to_form_2(LENT(lent, WIDE_SETTINGS));
     answers[5] = loader->settings_to_form_1(LENT(lent, WIDE_SETTINGS));
+    lent->area[WIDE_SETTINGS][0] ^= 0xFF; /* damaged */
+    answers[6] = loader->settings_mend(LENT(lent, WIDE_SETTINGS), LENT(lent, WIDE_COUNTS));
 }
 
 /* A blank board in the command phase that is handed an Info, all in narrow areas but one. */

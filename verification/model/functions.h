@@ -14,6 +14,7 @@ struct loader_functions {
     uint64_t (*settings_write)(const uint8_t *, size_t, uint8_t *, size_t);
     uint64_t (*settings_to_form_2)(uint8_t *, size_t);
     uint64_t (*settings_to_form_1)(uint8_t *, size_t);
+    uint64_t (*settings_mend)(uint8_t *, size_t, uint8_t *, size_t);
     uint32_t (*rate)(uint32_t);
 };
 
@@ -24,6 +25,7 @@ static const struct loader_functions product_functions = {
     bhorelmu_settings_write,
     bhorelmu_settings_to_form_2,
     bhorelmu_settings_to_form_1,
+    bhorelmu_settings_mend,
     bhorelmu_rate,
 };
 
@@ -34,6 +36,7 @@ static const struct loader_functions model_functions = {
     model_settings_write,
     model_settings_to_form_2,
     model_settings_to_form_1,
+    model_settings_mend,
     model_rate,
 };
 

@@ -774,6 +774,54 @@ uint64_t model_settings_to_form_1(uint8_t *image, size_t image_size)
     return 0;
 }
 
+/* T-11: the counts of changed bytes, two bytes each: table, filler, values, checksum. */
+enum { BODY_3 = RESET_MODE, BODY_3_SIZE = 6, COUNTS_SIZE = 8 };
+
+/* What body 3 does not allow becomes what a blank image has; any readout is allowed. */
+static void mend_body_3(uint8_t *fields)
+{
+    if (fields[RESET_MODE] > RESET_WITH_PASSWORD)
+        fields[RESET_MODE] = blank_fields[RESET_MODE];
+    if (fields[ALERT] > ALERT_DISABLE)
+        fields[ALERT] = blank_fields[ALERT];
+    if (fields[SETTINGS_PROTECTED] > 1)
+        fields[SETTINGS_PROTECTED] = blank_fields[SETTINGS_PROTECTED];
+    fields[ZERO] = 0;
+}
+
+static void put_changed(uint8_t *count, const uint8_t *before, const uint8_t *after, size_t from, size_t to)
+{
+    unsigned changed = 0;
+    for (size_t at = from; at < to; at++)
+        changed += before[at] != after[at];
+    put16(count, changed);
+}
+
+uint64_t model_settings_mend(uint8_t *image, size_t image_size, uint8_t *counts, size_t counts_size)
+{
+    const size_t body_3 = form_1.bodies_at + BODY_3;
+    const struct form *form;
+    uint8_t before[SETTINGS_SIZE], fields[FIELDS_SIZE];
+    bool accepted = judge_image(image, image_size, both_forms, &form) == 0;
+    if (image_size != SETTINGS_SIZE)
+        return refused(3);
+    if (!accepted && get16(image) == form_2.number && get16(image + 2) == form_2.entry_count)
+        return refused(5);
+    if (counts_size != COUNTS_SIZE)
+        return refused(10);
+    memcpy(before, image, SETTINGS_SIZE);
+    if (!accepted) {
+        read_fields(&form_1, image, fields);
+        mend_body_3(fields);
+        write_image(&form_1, fields, image);
+    }
+    put_changed(counts, before, image, 0, form_1.bodies_at);
+    put_changed(counts + 2, before, image, form_1.filler_at, CHECKSUM_AT);
+    put_changed(counts + 4, before, image, body_3, body_3 + BODY_3_SIZE);
+    put_changed(counts + 6, before, image, CHECKSUM_AT, SETTINGS_SIZE);
+    return 0;
+}
+
 uint32_t model_rate(uint32_t id)
 {
     static const uint32_t rates[] = {4800, 9600, 19200, 38400, 57600, 115200, 1000000, 2000000, 3000000};

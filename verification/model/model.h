@@ -20,6 +20,7 @@ uint64_t model_settings_read(const uint8_t *image, size_t image_size, uint8_t *f
 uint64_t model_settings_write(const uint8_t *fields, size_t fields_size, uint8_t *image, size_t image_size);
 uint64_t model_settings_to_form_2(uint8_t *image, size_t image_size);
 uint64_t model_settings_to_form_1(uint8_t *image, size_t image_size);
+uint64_t model_settings_mend(uint8_t *image, size_t image_size, uint8_t *counts, size_t counts_size);
 uint32_t model_rate(uint32_t id);
 
 #endif

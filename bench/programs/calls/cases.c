@@ -93,6 +93,7 @@ const struct bench_case bench_cases[] = {
     {"Settings write", "", SETTINGS_SIZE, .function = SETTINGS_WRITE},
     {"Settings write", "form 2", SETTINGS_SIZE, .function = SETTINGS_WRITE, .preset = FORM_2},
     {"Settings to form 2 and back", "", SETTINGS_SIZE, .function = SETTINGS_MOVES},
+    {"Settings mended", "", SETTINGS_SIZE, .function = SETTINGS_MEND},
     {"Rate of an id", "", .function = RATE, .answer = 115200},
 };
 

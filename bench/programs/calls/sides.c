@@ -40,13 +40,19 @@ static uint64_t no_move(uint8_t *image, size_t image_size)
     return 0;
 }
 
+static uint64_t no_mend(uint8_t *image, size_t image_size, uint8_t *counts, size_t counts_size)
+{
+    (void)image, (void)image_size, (void)counts, (void)counts_size;
+    return 0;
+}
+
 static uint32_t no_rate(uint32_t id)
 {
     (void)id;
     return 0;
 }
 
-static const struct loader_functions nothing = {no_start, no_call, no_read, no_write, no_move, no_move, no_rate};
+static const struct loader_functions nothing = {no_start, no_call, no_read, no_write, no_move, no_move, no_mend, no_rate};
 
 const char *const side_names[SIDES] = {[OURS] = "ours", [GCC] = "gcc", [CLANG] = "clang", [NOTHING] = "nothing"};
 
@@ -100,6 +106,9 @@ static uint64_t call_once(struct side *side, uint8_t *record)
     case SETTINGS_MOVES: /* forth and back, so that each call finds the image of the first */
         return functions->settings_to_form_2(now->settings, SETTINGS_SIZE) |
                functions->settings_to_form_1(now->settings, SETTINGS_SIZE);
+    case SETTINGS_MEND: /* a byte of the table is bad at each call */
+        now->settings[DAMAGED_AT] ^= 0xFF;
+        return functions->settings_mend(now->settings, SETTINGS_SIZE, now->fields, COUNTS_SIZE);
     default:
         return functions->rate(6);
     }

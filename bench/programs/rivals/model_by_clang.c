@@ -5,6 +5,7 @@
 #define model_settings_write clang_settings_write
 #define model_settings_to_form_2 clang_settings_to_form_2
 #define model_settings_to_form_1 clang_settings_to_form_1
+#define model_settings_mend clang_settings_mend
 #define model_rate clang_rate
 #define model_functions names_by_clang
 

@@ -5,6 +5,7 @@ ghost use Rattle.flash.specs.Memory.{memory};
 ghost use Rattle.c_records.specs.Stored.{stored};
 ghost use Rattle.c_records.specs.Boundary.{rateFromC, startFromC, called, callFromC};
 ghost use Rattle.c_records.specs.SettingsFromC.{readFromC, writeFromC, toOneFromC, toTwoFromC};
+ghost use Rattle.c_records.specs.MendFromC.{mendStored, mendFromC};
 use parts::Mspm0;
 
 // Starts a session, and stores its record. Any fuse but 0 is set.
@@ -76,6 +77,14 @@ pub extern "C" fn bhorelmu_settings_to_form_1(image: &mut [u8]) -> u64
     ensures { λ r. ⌜ stored r (now (image .exit)) ≡ toOneFromC (now (image .entry)) ⌝ }
 {
     c_records::move_to_form_1(image)
+}
+
+// Mends a settings image where it lies, and stores how many bytes were changed.
+#[no_mangle]
+pub extern "C" fn bhorelmu_settings_mend(image: &mut [u8], counts: &mut [u8]) -> u64
+    ensures { λ r. ⌜ mendStored r (now (image .exit)) (now (counts .exit)) ≡ mendFromC (now (image .entry)) (now (counts .entry)) ⌝ }
+{
+    c_records::mend_image(image, counts)
 }
 
 // The rate that has this id, in bits a second, or 0 where none has.

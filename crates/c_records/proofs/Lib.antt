@@ -5,3 +5,5 @@ pub mod RecordLaws
 pub mod RecordAgain
 -- FieldsLaws: stored piece by piece, the pieces make the fields of a settings image.
 pub mod FieldsLaws
+-- CountsLaws: the counts of a mended image stored, beside the answers of the tool.
+pub mod CountsLaws

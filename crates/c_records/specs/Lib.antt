@@ -11,3 +11,5 @@ pub mod Boundary
 pub mod FieldsArea
 -- SettingsFromC: what the settings reader, the writer and the moves leave.
 pub mod SettingsFromC
+-- MendFromC: what mending a settings image leaves.
+pub mod MendFromC

@@ -4,6 +4,7 @@ mod decoding;
 mod encoding;
 mod fields;
 mod images;
+mod mending;
 mod numbers;
 mod rates;
 mod session_answers;
@@ -14,6 +15,7 @@ pub use images::move_to_form_1;
 pub use images::move_to_form_2;
 pub use images::read_image;
 pub use images::write_image;
+pub use mending::mend_image;
 pub use numbers::of_refusal;
 pub use rates::rate_by_id;
 pub use sessions::call_record;
@@ -66,3 +68,6 @@ pub(crate) const FIELDS_AREA_SIZE: usize = FORM_AT + 2;
 pub(crate) const NAME_AT: usize = settings::FIELDS_SIZE;
 
 pub(crate) const FORM_AT: usize = NAME_AT + settings::NAME_SIZE;
+
+// The area for the four counts of an image that is mended, two bytes for each.
+pub(crate) const COUNTS_SIZE: usize = 8;

@@ -21,3 +21,5 @@ pub mod BothForms
 pub mod AreaRule
 -- SettingsRuleFromC: from C too, the settings image is read and written by one rule.
 pub mod SettingsRuleFromC
+-- MendRule: a damaged image is mended to one that the reader accepts, and an accepted one stays as it is.
+pub mod MendRule

@@ -13,3 +13,5 @@ pub mod Visits
 pub mod VerifyLimit
 -- Trials: boards and packets on which it is tried.
 pub mod Trials
+-- MendedSettings: what a mended image says.
+pub mod MendedSettings

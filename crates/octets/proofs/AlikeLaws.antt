@@ -159,3 +159,16 @@ every-place-counts (a ∷ rest) (b ∷ bs) zero h h₂ n = rw (ne-eqb a b n, eq-
 every-place-counts (a ∷ rest) (b ∷ bs) (suc i) h h₂ n =
     let later = every-place-counts rest bs i (le-of-suc-le-suc h) (le-of-suc-le-suc h₂) n in
     by-test (eqb a b) (λ y. rw y later) (λ d. rw d (ap suc later))
+
+-- the same bytes differ nowhere
+pub same-differ-nowhere : (bytes : List ℕ) → differing bytes bytes ≡ 0
+same-differ-nowhere bytes = eqb-true _ 0 (none-differs bytes bytes ∙ equal-are-same bytes)
+
+-- no more places differ than there are
+pub at-most-all-differ : (one other : List ℕ) → differing one other ≤ length one + length other
+unfolding differing pick
+at-most-all-differ [] [] = omega arith
+at-most-all-differ [] (b ∷ bs) = omega (arith, at-most-all-differ [] bs)
+at-most-all-differ (a ∷ rest) [] = omega (arith, at-most-all-differ rest [])
+at-most-all-differ (a ∷ rest) (b ∷ bs) =
+    let later = at-most-all-differ rest bs in by-test (eqb a b) (λ y. rw y (omega (arith, later))) (λ n. rw n (omega (arith, later)))

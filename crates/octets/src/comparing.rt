@@ -19,7 +19,7 @@ pub fn all_are(value: u8, bytes: &[u8]) -> bool
 }
 
 // How many places differ; one that only one of the two has differs. Whoever stops at a difference cannot tell.
-fn differing(some: &[u8], others: &[u8]) -> usize
+pub fn differing(some: &[u8], others: &[u8]) -> usize
     ensures { λ r. ⌜ r ≡ differing (now (some .entry)) (now (others .entry)) ⌝ }
 {
     let common = reading::least(some.len(), others.len());

@@ -7,6 +7,7 @@ mod storing;
 
 pub use comparing::all_are;
 pub use comparing::are_same;
+pub use comparing::differing;
 pub use decimal::digits_in;
 pub use decimal::put_decimal;
 pub use hex::put_hex;

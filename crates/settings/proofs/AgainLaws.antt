@@ -49,7 +49,7 @@ module _ (image : List ℕ) (each : (k : ℕ) → getD image k 0 < 256) where
     ids-within : (at : ℕ) → at + 4 ≤ 8 → numberAt at 4 (part 106 8 image) ≡ numberAt (106 + at) 4 image
     ids-within at h = ap numberOf (part-of-part 106 8 at 4 image h)
 
-    numbers-made : numbersOf (shownIn form1 image) ≡ part 106 12 image
+    pub numbers-made : numbersOf (shownIn form1 image) ≡ part 106 12 image
     unfolding shownIn offsetOf sumOf
     numbers-made =
         rw (

@@ -83,3 +83,7 @@ readAs image (checked.Refused refusal) = refused (refusalNumbered refusal)
 -- the reader
 unfoldable pub readOf : List ℕ → ReadTold
 readOf image = readAs image (checkedOf Both image)
+
+-- whether it accepts an image
+unfoldable pub isAccepted : List ℕ → Bool
+isAccepted image = eqb (readOf image .number) 0

@@ -17,8 +17,10 @@ pub use moves::to_form_1;
 pub use moves::to_form_2;
 pub use presets::blank;
 pub use presets::none;
+pub use reader::accepts;
 pub use reader::read;
 pub use reader::read_settings;
+pub use writer::reseal;
 pub use writer::write;
 
 // What may be shown of the settings: raw numbers, as they stand in bodies 3, 4 and 5.

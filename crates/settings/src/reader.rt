@@ -5,7 +5,7 @@ ghost use Rattle.octets.specs.Number.{part};
 ghost use Rattle.settings.specs.Layout.{layoutOf};
 ghost use Rattle.settings.specs.Bodies.{settingsIn, nameIn, contentsIn};
 ghost use Rattle.settings.specs.Answers.{readTold, settingsTold, settingsOnly};
-ghost use Rattle.settings.specs.Reader.{readOf};
+ghost use Rattle.settings.specs.Reader.{readOf, isAccepted};
 use crate::Checked;
 use crate::Contents;
 use crate::FIELDS_SIZE;
@@ -103,5 +103,17 @@ pub fn read_settings(image: &[u8]) -> SettingsReading
             answer: ReadAnswer::Refused(refusal),
             settings: presets::none(),
         },
+    }
+}
+
+// Whether the reader accepts an image.
+pub fn accepts(image: &[u8]) -> bool
+    ensures { λ r. ⌜ r ≡ isAccepted (now (image .entry)) ⌝ }
+{
+    let checked = checks::check(Forms::Both, image);
+    match checked {
+        Checked::Blank => true,
+        Checked::Written(_) => true,
+        Checked::Refused(_) => false,
     }
 }

@@ -8,7 +8,7 @@ ghost use Rattle.checksum.specs.Checksum.{checksumOf};
 ghost use Rattle.settings.specs.Layout.{layoutOf, checksumAt, bodiesEnd, tableOf, pairsOf};
 ghost use Rattle.settings.specs.Table.{bodiesAt};
 ghost use Rattle.settings.specs.Bodies.{nameBody};
-ghost use Rattle.settings.specs.Image.{fillerOf, sealed};
+ghost use Rattle.settings.specs.Image.{fillerOf, sealed, resealed};
 ghost use Rattle.settings.specs.Answers.{writeNumber, writeLeft};
 ghost use Rattle.settings.specs.Writer.{nameFits, writeOf};
 use crate::CHECKSUM_AT;
@@ -105,4 +105,16 @@ pub fn write(contents: Contents, image: &mut [u8]) -> WriteAnswer
     let six = fields_writer::fields_of(settings);
     put_image(form, image, &six, &name);
     WriteAnswer::Written
+}
+
+// Puts table, filler and checksum of form 1 around the bodies that stand in an image, whatever they say. One of another size is left.
+pub fn reseal(image: &mut [u8])
+    ensures { λ _. ⌜ now (image .exit) ≡ resealed (now (image .entry)) ⌝ }
+{
+    if image.len() != IMAGE_SIZE {
+        return;
+    }
+    table::put_table(Form::One, image);
+    put_filler(Form::One, image);
+    put_checksum(image);
 }

@@ -172,9 +172,17 @@ static void break_image(struct dice *dice, uint8_t *image)
     }
 }
 
+/* One byte, anywhere in one of the parts of an image of form 1; the first four bytes tell the form. */
+static void damage_byte(struct dice *dice, uint8_t *image)
+{
+    static const uint16_t parts[] = {0, 4, 52, 100, 106, 126, IMAGE_CHECKSUM_AT, SETTINGS_BYTES};
+    uint32_t part = below(dice, 7), size = parts[part + 1] - parts[part];
+    image[parts[part] + below(dice, size)] ^= (uint8_t)(1 + below(dice, 255));
+}
+
 static void damage_image(struct dice *dice, uint8_t *image)
 {
-    switch (below(dice, 8)) {
+    switch (below(dice, 10)) {
     case 0: /* the checksum differs */
         image[below(dice, SETTINGS_BYTES)] ^= (uint8_t)(1u << below(dice, 8));
         break;
@@ -188,6 +196,10 @@ static void damage_image(struct dice *dice, uint8_t *image)
     case 3: /* blank but for a right checksum */
         memset(image, 0xFF, SETTINGS_BYTES);
         sign_image(image);
+        break;
+    case 4:
+    case 5:
+        damage_byte(dice, image);
         break;
     default:
         break_image(dice, image);

@@ -70,6 +70,9 @@ void print_step(FILE *out, const struct step *step)
     case CALL_TO_1:
         fprintf(out, "move to form %d: image %zu\n", step->kind == CALL_TO_2 ? 2 : 1, step->settings_size);
         break;
+    case CALL_MEND:
+        fprintf(out, "mend: image %zu, counts %zu\n", step->settings_size, step->fields_size);
+        break;
     case CALL_RATE:
         fprintf(out, "rate: id %u\n", number);
         break;

@@ -19,6 +19,7 @@ enum step_kind {
     CALL_WRITE,   /* the settings writer, from fields `data` to the settings flash */
     CALL_TO_2,    /* the moves, on the settings flash */
     CALL_TO_1,
+    CALL_MEND,    /* mending, on the settings flash; the counts go into the fields area */
     CALL_RATE     /* `number` is the id */
 };
 

@@ -138,6 +138,15 @@ static struct step choose_move(struct dice *dice)
     return (struct step){.kind = chance(dice, 50) ? CALL_TO_2 : CALL_TO_1, .settings_size = choose_settings_size(dice)};
 }
 
+static struct step choose_mend(struct dice *dice)
+{
+    static const size_t wrong[] = {0, 1, 7, 9, 16, 140};
+    return (struct step){.kind = CALL_MEND,
+                         .fill = roll(dice),
+                         .settings_size = choose_settings_size(dice),
+                         .fields_size = chance(dice, 85) ? COUNTS_BYTES : ONE_OF(dice, wrong)};
+}
+
 static struct step choose_rate(struct dice *dice)
 {
     static const uint32_t outside[] = {0, 10, 11, 255, 256, 258, 0x10002, 0x80000001, 0xFFFFFFFF};
@@ -163,15 +172,17 @@ struct step choose_step(struct dice *dice, uint32_t main_size, const struct side
         return choose_write(dice, main_size);
     if (which < 15)
         return choose_move(dice);
-    if (which < 20 || (over && chance(dice, 25)))
+    if (which < 21)
+        return choose_mend(dice);
+    if (which < 26 || (over && chance(dice, 25)))
         return choose_settings(dice, main_size);
-    if (which < 24 || (over && chance(dice, 25)))
+    if (which < 30 || (over && chance(dice, 25)))
         return choose_record(dice, main_size);
-    if (which < 26 || over)
+    if (which < 32 || over)
         return choose_start(dice, main_size);
-    if (which == 26)
+    if (which == 32)
         return choose_main(dice, main_size);
-    if (which == 21 && chance(dice, 30))
+    if (which == 33 && chance(dice, 30))
         return choose_window(dice);
     return choose_call(dice, main_size, side->area[AREA_RECORD]);
 }

@@ -34,6 +34,9 @@ enum {
     FIELDS_BYTES = 140
 };
 
+/* The counts of a mended image, two bytes each. */
+enum { COUNTS_BYTES = 8 };
+
 /* A record. */
 enum {
     PHASE_AT = 0,

@@ -32,6 +32,15 @@
     P(TO_1_MOVED, "move to form 1", "moved") P(TO_1_BLANK, "", "blank") P(TO_1_3, "", "3") P(TO_1_4, "", "4") \
     P(TO_1_5, "", "5") P(TO_1_6, "", "6") P(TO_1_7, "", "7") P(TO_1_8, "", "8") \
     P(TO_1_OTHER, "", "5 for a whole image of form 1") P(TO_1_41, "", "41") P(TO_1_8_FIRST, "", "8 before 41") \
+    P(MEND_MENDED, "mending", "mended") P(MEND_BLANK, "", "blank kept") P(MEND_FORM_1, "", "form 1 kept") \
+    P(MEND_FORM_2, "", "form 2 kept") P(MEND_3, "", "3") P(MEND_5, "", "5") P(MEND_10, "", "10") \
+    P(MEND_3_FIRST, "", "3 before 10") P(MEND_5_FIRST, "", "5 before 10") P(MEND_10_DAMAGED, "", "10 for a damaged image") \
+    P(MEND_NEARLY_BLANK, "", "blank but for a byte") P(MEND_WAS_FORM_2, "", "form 2 taken for form 1") \
+    P(MEND_MODE, "mended value", "reset mode") P(MEND_ALERT, "", "alert") P(MEND_PROTECTED, "", "settings protected") \
+    P(MEND_ZERO, "", "zero byte") P(MEND_READOUT, "", "none, the readout not the blank one") \
+    P(MEND_TABLE_ALONE, "mended, one byte alone", "table") P(MEND_FILLER_ALONE, "", "filler") \
+    P(MEND_VALUES_ALONE, "", "values") P(MEND_CHECKSUM_ALONE, "", "checksum") \
+    P(MEND_SEALED, "mended, the checksum", "over a kept body alone") P(MEND_CHECKSUM_SOME, "", "1 to 3 bytes") P(MEND_CHECKSUM_ALL, "", "4 bytes") \
     P(PAIR_1_7, "refusal 5, form and count", "1 and 7") P(PAIR_2_6, "", "2 and 6") P(PAIR_OTHER, "", "another pair") \
     P(FILLER_126, "refusal 7, the one byte", "126 of form 1") P(FILLER_198, "", "198 of form 2") \
     P(FILLER_LAST, "", "1,019") \

@@ -41,6 +41,8 @@ struct finding look(const struct step *step, const struct side *side)
 {
     struct finding finding = {.words = 0};
     memcpy(finding.record, side->area[AREA_RECORD], sizeof finding.record);
+    if (step->kind == CALL_MEND)
+        memcpy(finding.image, side->area[AREA_SETTINGS], sizeof finding.image);
     if (step->kind != CALL_SESSION || step->data_size <= PROGRAM_FRAME || (step->data[3] != 0x20 && step->data[3] != 0x24))
         return finding;
     uint32_t first = read32(step->data + 4), offset = first - SETTINGS_START;

@@ -3,10 +3,12 @@
 
 #include "script.h"
 #include "sides.h"
+#include "wire.h"
 
 /* What a call finds, looked at before it is made. */
 struct finding {
     uint8_t record[RECORD_ROOM];
+    uint8_t image[SETTINGS_BYTES]; /* of a call that mends */
     /* of a Program, also a fast one, whose range lies in one region of flash; else all are 0: */
     uint32_t words, written; /* how many words there are, and how many of them are not blank */
     bool bytes_written;      /* a byte of the range is not 0xFF, also where it is no whole words */

@@ -175,6 +175,66 @@ static void observe_move(const struct sight *sight, int moved, bool to_2)
     seen_if(!to_2 && refusal == 8 && is_named(image), TO_1_8_FIRST);
 }
 
+static bool checksum_differs(const uint8_t *image)
+{
+    uint8_t right[SETTINGS_BYTES];
+    memcpy(right, image, SETTINGS_BYTES);
+    sign_image(right);
+    return memcmp(right, image, SETTINGS_BYTES) != 0;
+}
+
+static size_t bytes_not_ff(const uint8_t *bytes, size_t count)
+{
+    size_t others = 0;
+    for (size_t i = 0; i < count; i++)
+        others += bytes[i] != 0xFF;
+    return others;
+}
+
+/* What was wrong with an image that was mended, and what was changed of it. */
+static void observe_mended(const uint8_t *image, uint32_t table, uint32_t filler, uint32_t values, uint32_t checksum)
+{
+    const uint8_t *fields = image + FIELDS_AT_1;
+    bool one = table + filler + values + checksum == 1;
+    seen_if(fields[RESET_MODE_AT] > 2, MEND_MODE);
+    seen_if(fields[ALERT_AT] > 2, MEND_ALERT);
+    seen_if(fields[SETTINGS_PROTECTED_AT] > 1, MEND_PROTECTED);
+    seen_if(fields[ZERO_AT] != 0, MEND_ZERO);
+    seen_if(values == 0 && read16(fields + READOUT_AT) != 0xFFFF, MEND_READOUT);
+    seen_if(one && table == 1, MEND_TABLE_ALONE);
+    seen_if(one && filler == 1, MEND_FILLER_ALONE);
+    seen_if(one && values == 1, MEND_VALUES_ALONE);
+    seen_if(one && checksum == 1, MEND_CHECKSUM_ALONE);
+    seen_if(table + filler + values == 0 && checksum > 1, MEND_SEALED);
+    seen_if(checksum >= 1 && checksum <= 3, MEND_CHECKSUM_SOME);
+    seen_if(checksum == 4, MEND_CHECKSUM_ALL);
+    seen_if(bytes_not_ff(image, SETTINGS_BYTES) == 1, MEND_NEARLY_BLANK);
+    seen_if(read16(image + IMAGE_ENTRIES_AT + 2) == 60, MEND_WAS_FORM_2);
+}
+
+/* Mending, of an image as it was; the counts stand in the fields area. */
+static void observe_mend(const struct sight *sight, const uint8_t *counts)
+{
+    const uint8_t *image = sight->found->image;
+    unsigned refusal = refusal_of(sight->answer);
+    bool other_size = sight->step->fields_size != COUNTS_BYTES;
+    seen_if(refusal == 3, other_size ? MEND_3_FIRST : MEND_3);
+    seen_if(refusal == 5, other_size ? MEND_5_FIRST : MEND_5);
+    if (refusal == 10)
+        seen(!all_ff(image, SETTINGS_BYTES) && checksum_differs(image) ? MEND_10_DAMAGED : MEND_10);
+    if (refusal != 0)
+        return;
+    uint32_t table = read16(counts), filler = read16(counts + 2), values = read16(counts + 4), checksum = read16(counts + 6);
+    if (table + filler + values + checksum > 0) {
+        seen(MEND_MENDED);
+        observe_mended(image, table, filler, values, checksum);
+    } else if (all_ff(image, SETTINGS_BYTES)) {
+        seen(MEND_BLANK);
+    } else {
+        seen(is_form_2(image) ? MEND_FORM_2 : MEND_FORM_1);
+    }
+}
+
 static void observe_rate(uint32_t id)
 {
     seen_if(id >= 1 && id <= 9, RATE_ID_1 + (int)id - 1);
@@ -818,6 +878,8 @@ void observe(const struct step *step, const struct finding *found, const struct 
         observe_move(&sight, TO_2_MOVED, true);
     if (step->kind == CALL_TO_1)
         observe_move(&sight, TO_1_MOVED, false);
+    if (step->kind == CALL_MEND)
+        observe_mend(&sight, after->area[AREA_FIELDS]);
     if (step->kind == CALL_RATE)
         observe_rate(step->number);
     if (step->kind == CALL_SESSION)

@@ -13,6 +13,9 @@ use Rattle.settings.specs.declared.MoveAnswer.{MoveAnswer}
 use Rattle.settings.specs.declared.MoveAnswer.the-variants as move
 use Rattle.settings.specs.Answers.{Numbered, refusalNumbered, readNumbered, writeNumber, moveNumbered}
 use Rattle.settings.proofs.ReaderLaws.{refuses}
+use Rattle.settings_mend.specs.declared.MendAnswer.{MendAnswer}
+use Rattle.settings_mend.specs.declared.MendAnswer.the-variants as mend
+use Rattle.settings_mend.specs.Mending.{MendTold, mendTold}
 use Rattle.session.specs.declared.StartAnswer.{StartAnswer}
 use Rattle.session.specs.declared.StartAnswer.the-variants as start
 use Rattle.session.specs.declared.CallAnswer.{CallAnswer}
@@ -84,6 +87,17 @@ unfolding movedBy pick
 moved-back move.Moved = refl
 moved-back (move.Refused why) = move-refused-back why ∙ ap move.Refused (refused-back why)
 moved-back move.NameNotEmpty = refl
+
+-- ---- mending
+
+unfoldable pub mendedBy : MendTold → MendAnswer
+mendedBy told = pick (eqb (told .number) 3) mend.SizeWrong (pick (eqb (told .number) 5) mend.FormTwo (mend.Mended (told .changes)))
+
+pub mended-back : (answer : MendAnswer) → mendedBy (mendTold answer) ≡ answer
+unfolding mendedBy pick
+mended-back (mend.Mended changes) = refl
+mended-back mend.SizeWrong = refl
+mended-back mend.FormTwo = refl
 
 -- ---- start
 

@@ -7,7 +7,7 @@ use Prim.Native.Nat.{ℕ, _-_, _/_, min}
 use lib.ListN.{length, getD, replicate}
 use lib.Seq.{sets}
 use Rattle.octets.specs.Number.{part, numberAt, bytesOf, isMultiple}
-use Rattle.octets.specs.Alike.{allAre, areSame}
+use Rattle.octets.specs.Alike.{allAre, areSame, differing}
 use Rattle.octets.specs.Hex.{hexOf}
 use Rattle.octets.specs.Decimal.{digitsIn, decimalOf}
 use Rattle.checksum.specs.Checksum.{checksumFrom, checksumOf}
@@ -33,9 +33,13 @@ use Rattle.settings.specs.declared.WriteAnswer.{WriteAnswer}
 use Rattle.settings.specs.declared.MoveAnswer.{MoveAnswer}
 use Rattle.settings.specs.declared.Refusal.{Refusal}
 use Rattle.settings.specs.Answers.{numbered, refusalNumbered, readTold, settingsTold, settingsOnly, writeLeft, writeNumber, MoveLeft, moveLeft, moveNumbered}
-use Rattle.settings.specs.Reader.{readOf}
+use Rattle.settings.specs.Image.{resealed}
+use Rattle.settings.specs.Reader.{readOf, isAccepted}
 use Rattle.settings.specs.Writer.{writeOf}
 use Rattle.settings.specs.Moves.{movedToOne, movedToTwo}
+use Rattle.settings_mend.specs.declared.MendAnswer.{MendAnswer}
+use Rattle.settings_mend.specs.Examining.{examinedOf}
+use Rattle.settings_mend.specs.Mending.{mendLeft, mendTold, mendOf}
 use Rattle.flash.specs.declared.Region.{Region}
 use Rattle.flash.specs.Regions.{isMainSize, placeOf}
 use Rattle.flash.specs.Memory.{memory, bytesIn}
@@ -59,12 +63,13 @@ use Rattle.session_in_place.specs.Starting.{startLeft, startInPlace}
 use Rattle.c_records.specs.OneNumber.{refusalOf}
 use Rattle.c_records.specs.Stored.{Stored, stored}
 use Rattle.c_records.specs.SettingsFromC.{readFromC, writeFromC, toOneFromC, toTwoFromC}
+use Rattle.c_records.specs.MendFromC.{mendStored, mendFromC}
 use Rattle.c_records.specs.Boundary as rig
 use Rattle.runner_text.specs.Form.{scriptTold, scriptOf, waitIn, packetIn}
 use Rattle.runner_text.specs.Writing.{lineOf, Written, written, writtenOf}
 use Rattle.runner_text.specs.EndLine.{endOf}
 use Rattle.claims.proofs.Answers.OneAnswer.{OneAnswer, given-back, as-said}
-use Rattle.claims.proofs.Answers.NumberedAnswers.{readBy, read-back, writtenBy, written-back, movedBy, moved-back, startedBy, started-back, calledBy, called-back, scriptBy, script-back}
+use Rattle.claims.proofs.Answers.NumberedAnswers.{readBy, read-back, writtenBy, written-back, movedBy, moved-back, mendedBy, mended-back, startedBy, started-back, calledBy, called-back, scriptBy, script-back}
 
 -- ---- octets: bytes read and compared
 
@@ -95,6 +100,9 @@ all-are-is-one value bytes = as-said (allAre value bytes)
 
 pub are-same-is-one : (some others : List ℕ) → OneAnswer (λ r. r ≡ areSame some others)
 are-same-is-one some others = as-said (areSame some others)
+
+pub differing-is-one : (some others : List ℕ) → OneAnswer (λ r. r ≡ differing some others)
+differing-is-one some others = as-said (differing some others)
 
 -- ---- octets: bytes stored
 
@@ -195,6 +203,12 @@ read-settings-is-one image =
     (λ r. ap (λ answer. record { answer = answer; settings = r .settings }) (read-back (r .answer)))
     (settingsOnly (readOf image))
 
+pub accepts-is-one : (image : List ℕ) → OneAnswer (λ r. r ≡ isAccepted image)
+accepts-is-one image = as-said (isAccepted image)
+
+pub reseal-is-one : (image : List ℕ) → OneAnswer (λ image'. image' ≡ resealed image)
+reseal-is-one image = as-said (resealed image)
+
 pub write-is-one : (contents : Contents) (image : List ℕ) → OneAnswer {A = WriteAnswer × List ℕ} (λ r. writeLeft (writeNumber (r .0)) (r .1) ≡ writeOf contents image)
 write-is-one contents image =
     given-back (λ r. writeLeft (writeNumber (r .0)) (r .1)) (λ l. (writtenBy (l .number), l .image))
@@ -210,6 +224,16 @@ to-form-1-is-one image = moving-is-one (movedToOne image)
 
 pub to-form-2-is-one : (image : List ℕ) → OneAnswer {A = MoveAnswer × List ℕ} (λ r. moveLeft (moveNumbered (r .0)) (r .1) ≡ movedToTwo image)
 to-form-2-is-one image = moving-is-one (movedToTwo image)
+
+-- ---- settings_mend
+
+pub examine-is-one : (image : List ℕ) → OneAnswer (λ r. r ≡ examinedOf image)
+examine-is-one image = as-said (examinedOf image)
+
+pub mend-is-one : (image : List ℕ) → OneAnswer {A = MendAnswer × List ℕ} (λ r. mendLeft (mendTold (r .0)) (r .1) ≡ mendOf image)
+mend-is-one image =
+    given-back (λ r. mendLeft (mendTold (r .0)) (r .1)) (λ l. (mendedBy (l .told), l .image)) (λ r. ap (λ answer. (answer, r .1)) (mended-back (r .0)))
+    (mendOf image)
 
 -- ---- flash: regions
 
@@ -333,6 +357,10 @@ move-to-form-1-is-one image = stored-is-one (toOneFromC image)
 pub move-to-form-2-is-one : (image : List ℕ) → OneAnswer {A = ℕ × List ℕ} (λ r. stored (r .0) (r .1) ≡ toTwoFromC image)
 move-to-form-2-is-one image = stored-is-one (toTwoFromC image)
 
+pub mend-image-is-one : (image counts : List ℕ) → OneAnswer {A = ℕ × List ℕ × List ℕ} (λ r. mendStored (r .0) (r .1) (r .2) ≡ mendFromC image counts)
+mend-image-is-one image counts =
+    given-back (λ r. mendStored (r .0) (r .1) (r .2)) (λ s. (s .answer, s .image, s .counts)) (λ r. refl) (mendFromC image counts)
+
 -- ---- c_records: sessions
 
 pub start-record-is-one : (part : Part) (fuse : ℕ) (main settings window area : List ℕ)
@@ -363,6 +391,9 @@ bhorelmu-settings-to-form-2-is-one = move-to-form-2-is-one
 
 pub bhorelmu-settings-to-form-1-is-one : (image : List ℕ) → OneAnswer {A = ℕ × List ℕ} (λ r. stored (r .0) (r .1) ≡ toOneFromC image)
 bhorelmu-settings-to-form-1-is-one = move-to-form-1-is-one
+
+pub bhorelmu-settings-mend-is-one : (image counts : List ℕ) → OneAnswer {A = ℕ × List ℕ × List ℕ} (λ r. mendStored (r .0) (r .1) (r .2) ≡ mendFromC image counts)
+bhorelmu-settings-mend-is-one = mend-image-is-one
 
 pub bhorelmu-start-is-one : (fuse : ℕ) (main settings window area : List ℕ)
     → OneAnswer {A = ℕ × List ℕ} (λ r. stored (r .0) (r .1) ≡ rig.startFromC mspm0 fuse main settings window area)

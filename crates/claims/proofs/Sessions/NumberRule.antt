@@ -32,6 +32,10 @@ use Rattle.settings.specs.Moves.{inForm, moveAs, moveOf}
 use Rattle.settings.specs.Fields.{zeroAt}
 use Rattle.settings.proofs.LayoutLaws.{count-is-few}
 use Rattle.settings.proofs.ReaderLaws.{differing-entry-there}
+use Rattle.settings_mend.specs.declared.Examined.{Examined}
+use Rattle.settings_mend.specs.declared.Examined.the-variants as examined
+use Rattle.settings_mend.specs.Examining.{examinedOf}
+use Rattle.settings_mend.specs.Mending.{mendAs, mendOf}
 use Rattle.flash.specs.Memory.{Memory}
 use Rattle.flash.specs.Regions.{isMainSize}
 use Rattle.session.specs.declared.Session.{Session}
@@ -45,6 +49,7 @@ use Rattle.c_records.specs.OneNumber.{refusalUnit, burnUnit, oneNumber, refusal
 use Rattle.c_records.specs.Stored.{Stored, storedBy}
 use Rattle.c_records.specs.FieldsArea.{fieldsAreaSize, formAt, fieldsOf, isFormNumber, contentsRead}
 use Rattle.c_records.specs.SettingsFromC.{readFromC, writeFromC, movedFromC, toTwoFromC, toOneFromC}
+use Rattle.c_records.specs.MendFromC.{MendStored, countsSize, mendFromC}
 use Rattle.c_records.specs.Records.{recordSize, recordOf, sessionIn, isRecordArea}
 use Rattle.c_records.specs.Boundary.{startByFuse, startFromC, Called, storedAfter, calledFrom, callFromC}
 
@@ -52,7 +57,7 @@ use Rattle.c_records.specs.Boundary.{startByFuse, startFromC, Called, storedAft
 
 -- 01, Numbers of refused calls: "Start checks 1-8, the settings reader 3-8, the writer 3 then 8, a session call 9 then 10."; T-05: "11, window not
 -- 3,456 bytes, after 3 at start and after 9 in a call"; T-09: "each move checks as the reader", and "41, a name not all 0xFF on the way back or in form 1
--- settings to be written, after 8"
+-- settings to be written, after 8"; T-11: "Refusals: 3; then 5"
 abbrev pub readNumbers : List ℕ
 readNumbers = 0 ∷ 3 ∷ 4 ∷ 5 ∷ 6 ∷ 7 ∷ 8 ∷ []
 
@@ -61,6 +66,9 @@ writeNumbers = 0 ∷ 3 ∷ 8 ∷ 41 ∷ []
 
 abbrev pub moveNumbers : List ℕ
 moveNumbers = 41 ∷ readNumbers
+
+abbrev pub mendNumbers : List ℕ
+mendNumbers = 0 ∷ 3 ∷ 5 ∷ []
 
 abbrev pub startNumbers : List ℕ
 startNumbers = 1 ∷ 2 ∷ 11 ∷ readNumbers
@@ -129,6 +137,16 @@ move-is-answered from to image = as-found (checkedOf from image) (check-is-answe
     as-found checked.Blank well = (refl, omega arith)
     as-found (checked.Written form) well = (every-write (inForm to (contentsIn form image)) image moveNumbers refl refl refl refl, omega arith)
     as-found (checked.Refused why) well = (one-of-more 41 readNumbers (refusalNumbered why .number) (well .0), well .1)
+
+pub mend-is-answered : (image : List ℕ) → IsOneOf mendNumbers (mendOf image .told .number)
+unfolding mendOf isOneOf pick
+mend-is-answered image = as-found (examinedOf image)
+  where
+    as-found : (found : Examined) → IsOneOf mendNumbers (mendAs image found .told .number)
+    as-found examined.SizeWrong = refl
+    as-found examined.Accepted = refl
+    as-found examined.FormTwo = refl
+    as-found examined.Damaged = refl
 
 module _ (part : Part) (fuse : Bool) (main settings window : List ℕ) where
   abbrev StartWell : StartTold → Type 0
@@ -222,6 +240,16 @@ to-two-is-answered-from-C = moved-says OnlyOne Two
 
 pub to-one-is-answered-from-C : (image : List ℕ) → IsOneOf moveNumbers (refusalIn (toOneFromC image .answer))
 to-one-is-answered-from-C = moved-says OnlyTwo One
+
+pub mend-is-answered-from-C : (image area : List ℕ) → IsOneOf (10 ∷ mendNumbers) (refusalIn (mendFromC image area .answer))
+unfolding mendFromC isOneOf pick
+mend-is-answered-from-C image area =
+    by-pick Well (not (eqb (mendOf image .told .number) 0)) _ _
+    (λ y. subst (IsOneOf (10 ∷ mendNumbers)) (sym (refusal-is (numbered (mendOf image .told .number) 0) (omega arith))) (one-of-more 10 mendNumbers (mendOf image .told .number) (mend-is-answered image)))
+    (λ n. by-pick Well (not (eqb (length area) countsSize)) _ _ (λ y. refl) (λ m. refl))
+  where
+    Well : MendStored → Type 0
+    Well left = IsOneOf (10 ∷ mendNumbers) (refusalIn (left .answer))
 
 module _ (part : Part) (area : List ℕ) (before : Memory) (wait : ℕ) (packet reply : List ℕ) where
   abbrev left : Left
