@@ -34,9 +34,16 @@ def row(name, check, programs, edits):
 
 
 def main():
+    if sys.argv[1:] in (["-h"], ["--help"]):
+        print(__doc__.strip())
+        return
     if len(sys.argv) != 2:
         raise SystemExit(__doc__)
-    checks, edits = read(pathlib.Path(sys.argv[1]).read_text().splitlines())
+    try:
+        lines = pathlib.Path(sys.argv[1]).read_text().splitlines()
+    except OSError as error:
+        raise SystemExit(f"{sys.argv[1]}: {error.strerror}; name a file with what the gate has printed")
+    checks, edits = read(lines)
     if not checks:
         raise SystemExit(f"{sys.argv[1]}: no crate is said to be proved")
     programs = {name: len(programs_of(name)) for name in checks}

@@ -17,11 +17,15 @@ import sys
 sys.dont_write_bytecode = True
 from wrong_programs import Misuse, files_of, functions_of, programs_in
 
-ERROR = re.compile(r"^(.+?):\d+:\d+: error: .*", re.M)
+ERROR = re.compile(r"^(\S.*?):\d+:\d+: error: .*(?:\n  .*)*", re.M)
 OPEN = re.compile(r"^fn (\S+): no proof: .*does not close.*", re.M)
 ECHO = "was not admitted"
 UNFIT = re.compile("that can be named from here|has no field|binders, but its type has room|is not in scope|it is not inferred")
 LONGEST = 300
+
+
+def first_line(error):
+    return error.split("\n", 1)[0]
 
 
 class Log:
@@ -29,7 +33,7 @@ class Log:
 
     def __init__(self, crate, said):
         self.crate = crate
-        self.errors = [(found[1], found[0]) for found in ERROR.finditer(said) if ECHO not in found[0]]
+        self.errors = [(found[1], found[0]) for found in ERROR.finditer(said) if ECHO not in first_line(found[0])]
         self.open = {found[1]: found[0] for found in OPEN.finditer(said)}
 
     def first_at(self, function):
@@ -60,9 +64,9 @@ def judged(program, alone, log):
         errors = [log.first()]
     fitting = [error for error in errors if not UNFIT.search(error)]
     if fitting:
-        return True, fitting[0]
+        return True, first_line(fitting[0])
     if errors:
-        return False, f"refused, and not at a fact: {errors[0]}"
+        return False, f"refused, and not at a fact: {first_line(errors[0])}"
     return False, f"no error of its own in the proof of {' or '.join(name for _, name in sorted(functions)) or 'anything'}"
 
 

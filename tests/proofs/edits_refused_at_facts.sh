@@ -47,6 +47,7 @@ says 1 'two_more: no error of its own in the proof of caller' "$at_callee $fact"
 says 1 'one_less: no error of its own in the proof of callee' "$at_caller $fact" '/x/proofs/Laws.antt:1:2: error: `x`: no'
 says 1 'two_more: no error of its own' "$at_callee $fact" 'fn low::caller: not proved; it calls `low::callee`, which is not proved'
 says 1 'one_less: refused, and not at a fact' "$at_callee error: \`x\` has no field \`y\`" "$at_callee $fact" "$at_caller $fact"
+says 1 'one_less: refused, and not at a fact' "$at_callee error: \`x\`: of a record" '  has no field `y`' "$at_callee $fact" "$at_caller $fact"
 rm -r "$work/target/must-fail/low/both"
 (cd "$work" && python3 -B "$root/tools/refusals.py") | grep -q 'no log of its refusal' || complain "a log that is not there is not missed"
 
