@@ -13,3 +13,5 @@ pub mod FieldsArea
 pub mod SettingsFromC
 -- MendFromC: what mending a settings image leaves.
 pub mod MendFromC
+-- LargeFromC: the same of the larger part.
+pub mod LargeFromC

@@ -5,6 +5,8 @@ pub mod Pairs
 pub mod Bodies
 -- FieldsRule: the fields of some settings are read and made by one rule.
 pub mod FieldsRule
+-- KeptRule: what a session keeps is read and made by one rule, on either part.
+pub mod KeptRule
 -- Written: a written image, part by part.
 pub mod Written
 -- Accepted: an accepted image, part by part.

@@ -13,7 +13,7 @@ use Rattle.octets.proofs.Searching.{by-pick}
 use Rattle.octets.proofs.StoreLaws.{sets-join, stored-front}
 use Rattle.checksum.specs.Checksum.{checksumOf}
 use Rattle.line.specs.declared.Reply.{Reply}
-use Rattle.line.specs.declared.Reply.the-variants.{Silence, Acknowledged, Message, Info, Bytes, Sum, FlashError}
+use Rattle.line.specs.declared.Reply.the-variants.{Silence, Acknowledged, Message, Info, Bytes, Sum, FlashError, LongInfo}
 use Rattle.line.specs.Codes.{replyLimit, replyHeader, acknowledged, readBackReply, infoReply, verifyReply, messageReply, detailedErrorReply, flashError, noDetail}
 use Rattle.line.specs.Replies.{coreReply, infoOf, readBackMost, replyBytes, Sent, sent, sentOf}
 
@@ -77,10 +77,11 @@ unfolding replyBytes infoOf bytesOf
 reply-fits Silence beside h = omega arith
 reply-fits (Acknowledged code) beside h = omega arith
 reply-fits (Message code) beside h = omega (arith, length-core-reply messageReply (code ∷ []))
-reply-fits (Info version bcr bsl) beside h = omega (arith, length-core-reply infoReply (infoOf version bcr bsl))
+reply-fits (Info version bcr bsl) beside h = omega (arith, length-core-reply infoReply (infoOf 4 version bcr bsl))
 reply-fits Bytes beside h = omega (arith, length-core-reply readBackReply beside)
 reply-fits (Sum sum) beside h = omega (arith, length-core-reply verifyReply (bytesOf 4 sum))
 reply-fits FlashError beside h = omega (arith, length-core-reply detailedErrorReply (flashError ∷ noDetail ∷ noDetail ∷ []))
+reply-fits (LongInfo version bcr bsl) beside h = omega (arith, length-core-reply infoReply (infoOf 8 version bcr bsl))
 
 -- so an area of 1,729 bytes takes every reply, and keeps what is past it
 pub reply-is-sent : (reply : Reply) (beside area : List ℕ) → length beside ≤ readBackMost → replyLimit ≤ length area

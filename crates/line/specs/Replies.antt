@@ -8,17 +8,18 @@ use Rattle.octets.specs.Choice.{pick}
 use Rattle.octets.specs.Number.{bytesOf}
 use Rattle.checksum.specs.Checksum.{checksumOf}
 use Rattle.line.specs.declared.Reply.{Reply}
-use Rattle.line.specs.declared.Reply.the-variants.{Silence, Acknowledged, Message, Info, Bytes, Sum, FlashError}
+use Rattle.line.specs.declared.Reply.the-variants.{Silence, Acknowledged, Message, Info, Bytes, Sum, FlashError, LongInfo}
 use Rattle.line.specs.Codes.{packetLimit, replyLimit, replyHeader, acknowledged, readBackReply, infoReply, verifyReply, messageReply, detailedErrorReply, flashError, noDetail}
 
 -- "Core replies follow the 0x00, framed 08, length, core, checksum."
 unfoldable pub coreReply : List ℕ → List ℕ
 coreReply core = acknowledged ∷ replyHeader ∷ (bytesOf 2 (length core) ++ (core ++ bytesOf 4 (checksumOf core)))
 
--- "24 bytes: 0x0100, 0x0100, version (4), 0x0001, 0x06C0, 0x20000160 (4), BCR id, BSL id"
-unfoldable pub infoOf : ℕ → ℕ → ℕ → List ℕ
-infoOf version bcr bsl =
-    bytesOf 2 0x0100 ++ bytesOf 2 0x0100 ++ bytesOf 4 version ++ bytesOf 2 0x0001
+-- "24 bytes: 0x0100, 0x0100, version (4), 0x0001, 0x06C0, 0x20000160 (4), BCR id, BSL id"; T-10: "The Info reply grows by four bytes": those of
+-- the version, where it stands
+unfoldable pub infoOf : ℕ → ℕ → ℕ → ℕ → List ℕ
+infoOf versionSize version bcr bsl =
+    bytesOf 2 0x0100 ++ bytesOf 2 0x0100 ++ bytesOf versionSize version ++ bytesOf 2 0x0001
     ++ bytesOf 2 packetLimit ++ bytesOf 4 0x20000160 ++ bytesOf 4 bcr ++ bytesOf 4 bsl
 
 -- "0x29 Read back .. above 1,720 .. 05": so many bytes stand beside a reply at most
@@ -31,10 +32,11 @@ unfoldable pub replyBytes : Reply → List ℕ → List ℕ
 replyBytes Silence beside = []
 replyBytes (Acknowledged code) beside = code ∷ []
 replyBytes (Message code) beside = coreReply (messageReply ∷ code ∷ [])
-replyBytes (Info version bcr bsl) beside = coreReply (infoReply ∷ infoOf version bcr bsl)
+replyBytes (Info version bcr bsl) beside = coreReply (infoReply ∷ infoOf 4 version bcr bsl)
 replyBytes Bytes beside = coreReply (readBackReply ∷ beside)
 replyBytes (Sum sum) beside = coreReply (verifyReply ∷ bytesOf 4 sum)
 replyBytes FlashError beside = coreReply (detailedErrorReply ∷ flashError ∷ noDetail ∷ noDetail ∷ [])
+replyBytes (LongInfo version bcr bsl) beside = coreReply (infoReply ∷ infoOf 8 version bcr bsl)
 
 -- all that writing a reply leaves: how many bytes it has, and the area
 pub record Sent : Type 0 where

@@ -5,6 +5,7 @@ mod commands;
 mod replies;
 
 pub use acknowledgement::acknowledge;
+pub use acknowledgement::is_rate;
 pub use commands::read_command;
 pub use replies::write_reply;
 
@@ -64,7 +65,8 @@ pub enum Command {
     Unknown,
 }
 
-// What is sent back; the bytes of Read back stand beside it. The last is the one Detailed Error there is.
+// What is sent back; the bytes of Read back stand beside it. FlashError is the one Detailed Error there is. LongInfo is Info on a part whose
+// version has eight bytes.
 pub enum Reply {
     Silence,
     Acknowledged(u8),
@@ -77,4 +79,9 @@ pub enum Reply {
     Bytes,
     Sum(u32),
     FlashError,
+    LongInfo {
+        version: u64,
+        bcr_id: u32,
+        bsl_id: u32,
+    },
 }

@@ -17,6 +17,9 @@ const REST_AT: usize = 5;
 // What a core reply has beside that: 0x00, a header, the length, the code, the checksum.
 const REPLY_FRAME: usize = 9;
 
+// What the high half of a number of eight bytes counts.
+const HALF_UNIT: u64 = 0x1_0000_0000;
+
 // Writes a core reply into an area that has room for it. The core is a code and what follows it.
 fn put_core_reply(code: u8, rest: &[u8], area: &mut [u8])
     requires { ⌜ length (now rest) + 9 ≤ length (now area) ⌝ }
@@ -63,12 +66,25 @@ fn write_acknowledgement(code: u8, area: &mut [u8]) -> usize
 
 // What the device tells of itself: 0x0100, 0x0100, a version, 0x0001, 0x06C0, 0x20000160, two ids. The zeros are filled in.
 fn info_of(version: u32, bcr_id: u32, bsl_id: u32) -> [u8; 24]
-    ensures { λ r. ⌜ r ≡ infoOf version «bcr_id» «bsl_id» ⌝ }
+    ensures { λ r. ⌜ r ≡ infoOf 4 version «bcr_id» «bsl_id» ⌝ }
 {
     let mut info = *b"\x00\x01\x00\x01\0\0\0\0\x01\x00\xC0\x06\x60\x01\x00\x20\0\0\0\0\0\0\0\0";
     octets::put_number(&mut info, 4, 4, version);
     octets::put_number(&mut info, 16, 4, bcr_id);
     octets::put_number(&mut info, 20, 4, bsl_id);
+    info
+}
+
+// The same with a version of eight bytes: the four low ones, and then the four high.
+fn long_info_of(version: u64, bcr_id: u32, bsl_id: u32) -> [u8; 28]
+    ensures { λ r. ⌜ r ≡ infoOf 8 version «bcr_id» «bsl_id» ⌝ }
+{
+    let mut info =
+        *b"\x00\x01\x00\x01\0\0\0\0\0\0\0\0\x01\x00\xC0\x06\x60\x01\x00\x20\0\0\0\0\0\0\0\0";
+    octets::put_number(&mut info, 4, 4, (version % HALF_UNIT) as u32);
+    octets::put_number(&mut info, 8, 4, (version / HALF_UNIT) as u32);
+    octets::put_number(&mut info, 20, 4, bcr_id);
+    octets::put_number(&mut info, 24, 4, bsl_id);
     info
 }
 
@@ -99,6 +115,15 @@ pub fn write_reply(reply: Reply, bytes: &[u8], area: &mut [u8]) -> usize
         Reply::FlashError => write_core_reply(
             codes::DETAILED_ERROR_REPLY,
             &[codes::FLASH_ERROR, codes::NO_DETAIL, codes::NO_DETAIL],
+            area,
+        ),
+        Reply::LongInfo {
+            version,
+            bcr_id,
+            bsl_id,
+        } => write_core_reply(
+            codes::INFO_REPLY,
+            &long_info_of(version, bcr_id, bsl_id),
             area,
         ),
     }

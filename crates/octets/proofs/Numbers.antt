@@ -1,6 +1,6 @@
 -- A number and its bytes give each other back.
 use mathlib.Core.Path.{_≡_, refl, ap, ap₂, _∙_}
-use mathlib.Core.List.{List, [], _∷_}
+use mathlib.Core.List.{List, [], _∷_, _++_}
 use Prim.Native.Nat.{ℕ, zero, suc, _+_, _-_, _*_, _/_, _%_, _^_, _<_, _≤_}
 use native.Mathlib.Nat.{pow-suc, div-lt-iff-lt-mul, mod-lt, zero-lt-suc}
 use native.Mathlib.Numerals.{add-one, add-two}
@@ -79,3 +79,34 @@ unfolding bytesOf
 each-bytesOf zero number k = omega arith
 each-bytesOf (suc width) number zero = mod-lt number (zero-lt-suc 255)
 each-bytesOf (suc width) number (suc k) = each-bytesOf width (number / 256) k
+
+-- eight bytes are those of the low half, and then those of the high half
+eight-of-halves : (low high : ℕ) → low < 4294967296 → bytesOf 8 (low + 4294967296 * high) ≡ bytesOf 4 low ++ bytesOf 4 high
+unfolding bytesOf
+eight-of-halves low high h =
+    let first : (low + 4294967296 * high) / 256 ≡ low / 256 + 16777216 * high = omega arith in
+    let second : (low / 256 + 16777216 * high) / 256 ≡ low / 256 / 256 + 65536 * high = omega arith in
+    let third : (low / 256 / 256 + 65536 * high) / 256 ≡ low / 256 / 256 / 256 + 256 * high = omega arith in
+    let fourth : (low / 256 / 256 / 256 + 256 * high) / 256 ≡ high = omega arith in
+    let one : (low + 4294967296 * high) % 256 ≡ low % 256 = omega arith in
+    let two : (low / 256 + 16777216 * high) % 256 ≡ low / 256 % 256 = omega arith in
+    let three : (low / 256 / 256 + 65536 * high) % 256 ≡ low / 256 / 256 % 256 = omega arith in
+    let four : (low / 256 / 256 / 256 + 256 * high) % 256 ≡ low / 256 / 256 / 256 % 256 = omega arith in
+    rw (first, second, third, fourth, one, two, three, four)
+
+pub eight-bytes : (number : ℕ) → bytesOf 8 number ≡ bytesOf 4 (number % 4294967296) ++ bytesOf 4 (number / 4294967296)
+eight-bytes number =
+    let whole : number ≡ number % 4294967296 + 4294967296 * (number / 4294967296) = omega arith in
+    ap (bytesOf 8) whole ∙ eight-of-halves (number % 4294967296) (number / 4294967296) (omega arith)
+
+-- and so is the number of eight
+pub number-of-eight : (bytes : List ℕ) (at : ℕ) → at + 8 ≤ length bytes
+    → numberAt at 8 bytes ≡ numberAt at 4 bytes + 4294967296 * numberAt (at + 4) 4 bytes
+unfolding numberOf
+number-of-eight bytes at h =
+    let first : at < length bytes = omega arith in
+    let second : suc at < length bytes = omega arith in
+    let third : suc (suc at) < length bytes = omega arith in
+    let fourth : suc (suc (suc at)) < length bytes = omega arith in
+    let four : at + 4 ≡ suc (suc (suc (suc at))) = omega arith in
+    rw (four, drop-cons bytes at 0, drop-cons bytes (suc at) 0, drop-cons bytes (suc (suc at)) 0, drop-cons bytes (suc (suc (suc at))) 0) (omega arith)

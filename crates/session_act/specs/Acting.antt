@@ -36,7 +36,7 @@ taskPlanned part mainSize shown protection right memory guarded.WrongLength = te
 -- what was decided is planned; the bit is whether the packet carries the reset password
 abbrev pub planOf : Part → ℕ → Shown → List ℕ → Bool → Memory → Effect → Planned
 planOf part mainSize shown protection right memory (Say reply) = says reply
-planOf part mainSize shown protection right memory TellInfo = says (infoTold shown (memory .main))
+planOf part mainSize shown protection right memory TellInfo = says (infoTold (part .«long_version») shown (memory .main))
 planOf part mainSize shown protection right memory Strike = struck
 planOf part mainSize shown protection right memory (Perform task) = taskPlanned part mainSize shown protection right memory task
 

@@ -9,7 +9,7 @@ use Rattle.octets.proofs.Searching.{pick-true, pick-false, by-pick}
 use Rattle.line.specs.Codes.{replyLimit}
 use Rattle.line.specs.Commands.{isSilent}
 use Rattle.line.specs.declared.Reply.{Reply}
-use Rattle.line.specs.declared.Reply.the-variants.{Silence, Acknowledged, Message, Info, Bytes, Sum, FlashError}
+use Rattle.line.specs.declared.Reply.the-variants.{Silence, Acknowledged, Message, Info, Bytes, Sum, FlashError, LongInfo}
 use Rattle.line.specs.Replies.{readBackMost, replyBytes, Sent, sent, sentOf}
 use Rattle.line.proofs.ReplyLaws.{nothing-sent, sent-fits, reply-is-sent}
 use Rattle.flash.specs.declared.Region.{Region}
@@ -32,6 +32,7 @@ module _ (packet : List ℕ) where
       one-byte Bytes = omega arith
       one-byte (Sum sum) = omega arith
       one-byte FlashError = omega arith
+      one-byte (LongInfo version bcr bsl) = omega arith
 
   -- all other commands are told what there is to tell
   pub others-are-told : (reply : Reply) → isSilent packet ≡ false → hushed packet reply ≡ reply

@@ -5,7 +5,7 @@ use Rattle.octets.specs.Choice.{pick}
 use Rattle.line.specs.Codes as codes
 use Rattle.line.specs.Commands.{isSilent}
 use Rattle.line.specs.declared.Reply.{Reply}
-use Rattle.line.specs.declared.Reply.the-variants.{Silence, Acknowledged, Message, Info, Bytes, Sum, FlashError}
+use Rattle.line.specs.declared.Reply.the-variants.{Silence, Acknowledged, Message, Info, Bytes, Sum, FlashError, LongInfo}
 use Rattle.line.specs.Replies.{replyBytes, Sent, sentOf}
 use Rattle.flash.specs.declared.Region.{Region}
 use Rattle.flash.specs.Memory.{Memory, bytesIn}
@@ -19,6 +19,7 @@ withoutCore (Info version bcr bsl) = Acknowledged codes.acknowledged
 withoutCore Bytes = Acknowledged codes.acknowledged
 withoutCore (Sum sum) = Acknowledged codes.acknowledged
 withoutCore FlashError = Acknowledged codes.acknowledged
+withoutCore (LongInfo version bcr bsl) = Acknowledged codes.acknowledged
 
 -- "Commands 0x12, 0x24, 0x40, 0x52 never get a core reply; when refused they do nothing, silently."; T-02: "Command 0x24 stays silent."
 unfoldable pub hushed : List ℕ → Reply → Reply

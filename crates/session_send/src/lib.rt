@@ -25,6 +25,11 @@ fn without_core(reply: Reply) -> Reply
         Reply::Bytes => Reply::Acknowledged(codes::ACKNOWLEDGED),
         Reply::Sum(_) => Reply::Acknowledged(codes::ACKNOWLEDGED),
         Reply::FlashError => Reply::Acknowledged(codes::ACKNOWLEDGED),
+        Reply::LongInfo {
+            version: _,
+            bcr_id: _,
+            bsl_id: _,
+        } => Reply::Acknowledged(codes::ACKNOWLEDGED),
     }
 }
 

@@ -6,13 +6,18 @@ use native.Mathlib.Nat.{le-of-suc-le-suc}
 use native.Mathlib.Omega.{arith}
 use lib.ListN.{getD, List·getD-append}
 use Rattle.settings.specs.declared.Form.{Form}
-use Rattle.settings.specs.declared.Form.the-variants.{One, Two}
-use Rattle.settings.specs.Layout.{Layout, layoutOf, countOf, sevenOf, entryOf, entriesFrom, tableOf}
+use Rattle.settings.specs.declared.Shape.{Shape}
+use Rattle.settings.specs.declared.Shape.the-variants as shape
+use Rattle.settings.specs.Layout.{Layout, layoutBy, shapeFor, layoutOf, countOf, sevenOf, entryOf, entriesFrom, tableOf}
 
--- no form has more than seven entries
+-- no table has more than seven entries
+pub few-entries : (shape : Shape) → countOf (layoutBy shape) ≤ 7
+few-entries shape.One = omega arith
+few-entries shape.Two = omega arith
+few-entries shape.Large = omega arith
+
 pub count-is-few : (form : Form) → countOf (layoutOf form) ≤ 7
-count-is-few One = omega arith
-count-is-few Two = omega arith
+count-is-few form = few-entries (shapeFor form)
 
 -- what is said of an entry stands at its place among the seven
 pub one-of-seven : (said : ℕ → ℕ) (entry : ℕ) → 0 < entry → entry ≤ 7 → getD (sevenOf said) (entry - 1) 0 ≡ said entry

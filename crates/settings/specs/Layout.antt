@@ -6,6 +6,8 @@ use lib.ListN.{length, getD, take}
 use Rattle.octets.specs.Number.{bytesOf}
 use Rattle.settings.specs.declared.Form.{Form}
 use Rattle.settings.specs.declared.Form.the-variants.{One, Two}
+use Rattle.settings.specs.declared.Shape.{Shape}
+use Rattle.settings.specs.declared.Shape.the-variants as shape
 
 pub record Layout : Type 0 where
   pub form : ℕ
@@ -19,9 +21,22 @@ form1 = record { form = 1; lengths = 32 ∷ 16 ∷ 6 ∷ 8 ∷ 4 ∷ 8 ∷ [] }
 abbrev pub form2 : Layout
 form2 = record { form = 2; lengths = 32 ∷ 16 ∷ 6 ∷ 8 ∷ 4 ∷ 8 ∷ 64 ∷ [] }
 
+-- T-10, the larger part's form 2: "The protection body becomes 32 bytes for this part, so the name ends at 222."
+abbrev pub large : Layout
+large = record { form = 2; lengths = 32 ∷ 16 ∷ 6 ∷ 8 ∷ 4 ∷ 32 ∷ 64 ∷ [] }
+
+-- the layout of each shape, and the shape of each form of the MSPM0
+abbrev pub layoutBy : Shape → Layout
+layoutBy shape.One = form1
+layoutBy shape.Two = form2
+layoutBy shape.Large = large
+
+abbrev pub shapeFor : Form → Shape
+shapeFor One = shape.One
+shapeFor Two = shape.Two
+
 abbrev pub layoutOf : Form → Layout
-layoutOf One = form1
-layoutOf Two = form2
+layoutOf form = layoutBy (shapeFor form)
 
 -- "An image of 1,024 bytes", "Bytes 1,020 to 1,023 are the checksum of bytes 0 to 1,019."
 abbrev pub imageSize : ℕ

@@ -24,10 +24,11 @@ fn checksum_differs(image: &[u8]) -> bool
 fn is_form(form: Form, image: &[u8]) -> bool
     ensures { λ r. ⌜ r ≡ isForm form (now (image .entry)) ⌝ }
 {
-    if octets::number16_at(image, 0) != places::form_number(form) {
+    let shape = places::shape_of(form);
+    if octets::number16_at(image, 0) != places::form_number(shape) {
         return false;
     }
-    octets::number16_at(image, 2) == places::entries_of(form) as u16
+    octets::number16_at(image, 2) == places::entries_of(shape) as u16
 }
 
 fn find_form(forms: Forms, image: &[u8]) -> Found
@@ -89,7 +90,7 @@ fn check_form(form: Form, image: &[u8]) -> Checked
     requires { ⌜ length (now image) ≡ 1024 ⌝ }
     ensures { λ r. ⌜ r ≡ checkedIn form (now (image .entry)) ⌝ }
 {
-    let entry = table::differing_entry(form, image);
+    let entry = table::differing_entry(places::shape_of(form), image);
     if entry != 0 {
         return Checked::Refused(Refusal::EntryDiffers(entry as u8));
     }

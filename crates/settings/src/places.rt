@@ -1,27 +1,40 @@
-// Where the parts of an image stand, by its form. Entries are counted from 1.
+// Where the parts of an image stand, by its shape or its form. Entries are counted from 1.
 ghost use mathlib.Core.Path.{_≡_};
 ghost use Prim.Native.Nat.{_+_, _*_, _<_, _≤_};
 ghost use lib.ListN.{getD};
-ghost use Rattle.settings.specs.Layout.{layoutOf, countOf, lengthOf, offsetOf, sevenOf, entryOf, tableOf};
+ghost use Rattle.settings.specs.Layout.{layoutBy, shapeFor, layoutOf, countOf, lengthOf, offsetOf, sevenOf, entryOf, tableOf};
 ghost use Rattle.settings.specs.Table.{bodiesAt, fillerAt};
 use crate::Form;
+use crate::Shape;
 
-pub(crate) fn form_number(form: Form) -> u16
-    ensures { λ r. ⌜ r ≡ layoutOf form .form ⌝ }
+// The shape of a form.
+pub(crate) fn shape_of(form: Form) -> Shape
+    ensures { λ r. ⌜ r ≡ shapeFor form ⌝ }
 {
     match form {
-        Form::One => 1,
-        Form::Two => 2,
+        Form::One => Shape::One,
+        Form::Two => Shape::Two,
+    }
+}
+
+pub(crate) fn form_number(shape: Shape) -> u16
+    ensures { λ r. ⌜ r ≡ layoutBy shape .form ⌝ }
+{
+    match shape {
+        Shape::One => 1,
+        Shape::Two => 2,
+        Shape::Large => 2,
     }
 }
 
 // How many entries the table has.
-pub(crate) fn entries_of(form: Form) -> usize
-    ensures { λ r. ⌜ r ≡ countOf (layoutOf form) ⌝ }
+pub(crate) fn entries_of(shape: Shape) -> usize
+    ensures { λ r. ⌜ r ≡ countOf (layoutBy shape) ⌝ }
 {
-    match form {
-        Form::One => 6,
-        Form::Two => 7,
+    match shape {
+        Shape::One => 6,
+        Shape::Two => 7,
+        Shape::Large => 7,
     }
 }
 
@@ -44,37 +57,39 @@ pub(crate) fn filler_at(form: Form) -> usize
     }
 }
 
-fn lengths(form: Form) -> [u8; 7]
-    ensures { λ r. ⌜ r ≡ sevenOf (lengthOf (layoutOf form)) ⌝ }
+fn lengths(shape: Shape) -> [u8; 7]
+    ensures { λ r. ⌜ r ≡ sevenOf (lengthOf (layoutBy shape)) ⌝ }
 {
-    match form {
-        Form::One => [32, 16, 6, 8, 4, 8, 0],
-        Form::Two => [32, 16, 6, 8, 4, 8, 64],
+    match shape {
+        Shape::One => [32, 16, 6, 8, 4, 8, 0],
+        Shape::Two => [32, 16, 6, 8, 4, 8, 64],
+        Shape::Large => [32, 16, 6, 8, 4, 32, 64],
     }
 }
 
-fn offsets(form: Form) -> [u8; 7]
-    ensures { λ r. ⌜ r ≡ sevenOf (offsetOf (layoutOf form)) ⌝ }
+fn offsets(shape: Shape) -> [u8; 7]
+    ensures { λ r. ⌜ r ≡ sevenOf (offsetOf (layoutBy shape)) ⌝ }
 {
-    match form {
-        Form::One => [52, 84, 100, 106, 114, 118, 126],
-        Form::Two => [60, 92, 108, 114, 122, 126, 134],
+    match shape {
+        Shape::One => [52, 84, 100, 106, 114, 118, 126],
+        Shape::Two => [60, 92, 108, 114, 122, 126, 134],
+        Shape::Large => [60, 92, 108, 114, 122, 126, 158],
     }
 }
 
 // A field of an entry: kind, offset, length, zero.
-fn entry_field(form: Form, entry: usize, field: usize) -> u16
+fn entry_field(shape: Shape, entry: usize, field: usize) -> u16
     requires { ⌜ (0 < entry) × (entry ≤ 7) ⌝ }
-    ensures { λ r. ⌜ r ≡ getD (entryOf (layoutOf form) entry) field 0 ⌝ }
+    ensures { λ r. ⌜ r ≡ getD (entryOf (layoutBy shape) entry) field 0 ⌝ }
 {
     match field {
         0 => entry as u16,
         1 => {
-            let all = offsets(form);
+            let all = offsets(shape);
             all[entry - 1] as u16
         }
         2 => {
-            let all = lengths(form);
+            let all = lengths(shape);
             all[entry - 1] as u16
         }
         _ => 0,
@@ -82,15 +97,15 @@ fn entry_field(form: Form, entry: usize, field: usize) -> u16
 }
 
 // The number at a place of the table: the form, the count, then four of each entry.
-pub(crate) fn table_number(form: Form, place: usize) -> u16
-    requires { ⌜ place < 2 + 4 * countOf (layoutOf form) ⌝ }
-    ensures { λ r. ⌜ r ≡ getD (tableOf (layoutOf form)) place 0 ⌝ }
+pub(crate) fn table_number(shape: Shape, place: usize) -> u16
+    requires { ⌜ place < 2 + 4 * countOf (layoutBy shape) ⌝ }
+    ensures { λ r. ⌜ r ≡ getD (tableOf (layoutBy shape)) place 0 ⌝ }
 {
     if place == 0 {
-        return form_number(form);
+        return form_number(shape);
     }
     if place == 1 {
-        return entries_of(form) as u16;
+        return entries_of(shape) as u16;
     }
-    entry_field(form, 1 + (place - 2) / 4, (place - 2) % 4)
+    entry_field(shape, 1 + (place - 2) / 4, (place - 2) % 4)
 }

@@ -54,7 +54,7 @@ fn put_front(form: Form, image: &mut [u8], six: &[u8], name: &[u8])
     requires { ⌜ (length (now image) ≡ 1024) × (length (now six) ≡ 74) × (length (now name) ≡ 64) ⌝ }
     ensures { λ _. ⌜ now (image .exit) ≡ sets (now (image .entry)) 0 (pairsOf (tableOf (layoutOf form)) ++ ((now (six .entry) ++ nameBody form (now (name .entry))) ++ fillerOf form)) ⌝ }
 {
-    table::put_table(form, image);
+    table::put_table(places::shape_of(form), image);
     put_bodies(form, image, six, name);
     put_filler(form, image);
 }

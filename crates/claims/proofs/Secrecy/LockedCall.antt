@@ -9,7 +9,6 @@ use lib.ListN.{length}
 use Rattle.octets.specs.Choice.{pick}
 use Rattle.octets.proofs.Searching.{pick-true, pick-false, by-test}
 use Rattle.parts.specs.declared.Part.{Part}
-use Rattle.parts.specs.Parts.{Sound}
 use Rattle.line.specs.Codes.{replyLimit}
 use Rattle.line.specs.Replies.{replyBytes, Sent}
 use Rattle.session_state.specs.declared.Standing.{Standing}
@@ -133,11 +132,11 @@ module _ (part : Part) where
           (λ n. n)
 
       -- the board stands as the next call wants it
-      pub stays-locked : Sound part → Locked part images (verdict images standing sending .standing)
-      stays-locked sound = record {
+      pub stays-locked : Locked part images (verdict images standing sending .standing)
+      stays-locked = record {
         valid =
             subst (λ (left : Left). HasRecord part (next left)) call-is
-            (valid-stays-valid part (sessionThen images standing) (later part images standing .memory) (sending .wait) (sending .packet) area sound (locked .valid));
+            (valid-stays-valid part (sessionThen images standing) (later part images standing .memory) (sending .wait) (sending .packet) area (locked .valid));
         window = locked .window;
         shut = stays-shut;
       }

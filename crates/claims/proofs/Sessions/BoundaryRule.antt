@@ -52,7 +52,7 @@ storing-keeps told size bytes area =
 
 pub refused-start-keeps : (part : Part) (fuse : ℕ) (main settings window area : List ℕ) → Kept area (startFromC part fuse main settings window area)
 refused-start-keeps part fuse main settings window area =
-    storing-keeps (startByFuse part fuse main settings window .answer) recordSize (recordOf (startByFuse part fuse main settings window .session)) area
+    storing-keeps (startByFuse part fuse main settings window .answer) (recordSize part) (recordOf part (startByFuse part fuse main settings window .session)) area
 
 pub refused-read-keeps : (image area : List ℕ) → Kept area (readFromC image area)
 refused-read-keeps image area =
@@ -97,7 +97,7 @@ module _ (part : Part) (area : List ℕ) (before : Memory) (wait : ℕ) (packet 
       (λ y. omega (arith, call-size-fits part (sessionIn area) before wait packet reply))
       (λ n. omega (arith, call-size-fits part (sessionIn area) before wait packet reply))
 
-  session-keeps : AllKept (calledAfter area left)
+  session-keeps : AllKept (calledAfter part area left)
   unfolding storedAfter
   session-keeps =
       by-pick (λ after. AllKept (calledFrom after left)) (eqb (left .answer .number) 0) _ _
@@ -110,4 +110,4 @@ module _ (part : Part) (area : List ℕ) (before : Memory) (wait : ℕ) (packet 
   refused-call-keeps-all =
       by-pick AllKept (ltb (length reply) replyLimit) _ _ (λ y h. refl)
       (λ n. by-pick AllKept (not (eqb (length (before .window)) (part .«window_size»))) _ _ (λ y h. refl)
-      (λ n. by-pick AllKept (not (isRecordArea area)) _ _ (λ y h. refl) (λ m. session-keeps)))
+      (λ n. by-pick AllKept (not (isRecordArea part area)) _ _ (λ y h. refl) (λ m. session-keeps)))

@@ -22,11 +22,14 @@ use Rattle.settings.specs.declared.Checked.{Checked}
 use Rattle.settings.specs.declared.Checked.the-variants as checked
 use Rattle.settings.specs.declared.Contents.{Contents}
 use Rattle.settings.specs.Values.{isAllowed}
-use Rattle.settings.specs.Layout.{layoutOf, imageSize}
+use Rattle.settings.specs.Layout.{large, layoutOf, imageSize}
 use Rattle.settings.specs.Entries.{differingEntry}
 use Rattle.settings.specs.Bodies.{contentsIn}
-use Rattle.settings.specs.Answers.{Numbered, numbered, refusalNumbered, WriteLeft}
-use Rattle.settings.specs.Reader.{isBlank, checksumDiffers, foundIn, fillerDiffers, valueNotAllowed, checkedIn, checkedFound, checkedWritten, checkedOf, readAs, readOf}
+use Rattle.settings.specs.Answers.{Numbered, numbered, refusalNumbered, WriteLeft, SettingsTold}
+use Rattle.settings.specs.Reader.{isBlank, checksumDiffers, isForm, foundIn, fillerDiffers, valueNotAllowed, checkedIn, checkedFound, checkedWritten, checkedOf, readAs, readOf}
+use Rattle.octets.specs.Alike.{allAre}
+use Rattle.settings_large.specs.Image.{largeSize}
+use Rattle.settings_large.specs.Reader as larger
 use Rattle.settings.specs.Writer.{nameFits, writeOf}
 use Rattle.settings.specs.Moves.{inForm, moveAs, moveOf}
 use Rattle.settings.specs.Fields.{zeroAt}
@@ -40,7 +43,7 @@ use Rattle.flash.specs.Memory.{Memory}
 use Rattle.flash.specs.Regions.{isMainSize}
 use Rattle.session.specs.declared.Session.{Session}
 use Rattle.session.specs.StartAnswers.{StartTold}
-use Rattle.session.specs.Starting.{startRead, startOf}
+use Rattle.session.specs.Starting.{startRead, settingsRead, startOf}
 use Rattle.session.specs.CallAnswers.{Left}
 use Rattle.session.specs.Records.{isRecord}
 use Rattle.session.specs.Calling.{serveOf, callOf}
@@ -148,6 +151,28 @@ mend-is-answered image = as-found (examinedOf image)
     as-found examined.FormTwo = refl
     as-found examined.Damaged = refl
 
+-- the larger part's reader
+module _ (image : List ℕ) where
+  abbrev LargeWell : Checked → Type 0
+  LargeWell found = Told readNumbers (larger.readAs image found .number) (larger.readAs image found .entry)
+
+  pub large-read-is-answered : Told readNumbers (larger.readOf image .number) (larger.readOf image .entry)
+  unfolding larger.readOf larger.checkedOf larger.checkedWritten larger.checkedIn isOneOf pick
+  large-read-is-answered =
+      by-pick LargeWell (not (eqb (length image) largeSize)) _ _ (λ y. (refl, omega arith))
+      (λ n. by-pick LargeWell (allAre 0xFF image) _ _ (λ y. (refl, omega arith))
+      (λ n. by-pick LargeWell (checksumDiffers image) _ _ (λ y. (refl, omega arith))
+      (λ n. by-pick LargeWell (not (isForm Two image)) _ _ (λ y. (refl, omega arith))
+      (λ n. by-pick LargeWell (not (eqb (differingEntry large image) 0)) _ _
+      (λ y. (refl, omega (arith, differing-entry-there large image)))
+      (λ n. by-pick LargeWell (larger.fillerDiffers image) _ _ (λ y. (refl, omega arith))
+      (λ n. by-pick LargeWell (larger.valueNotAllowed image) _ _ (λ y. (refl, omega arith)) (λ n. (refl, omega arith))))))))
+
+  pub taken-is-answered : Told readNumbers (settingsRead image .number) (settingsRead image .entry)
+  unfolding settingsRead
+  taken-is-answered =
+      by-pick (λ (told : SettingsTold). Told readNumbers (told .number) (told .entry)) (eqb (length image) largeSize) _ _ (λ y. large-read-is-answered) (λ n. read-is-answered image)
+
 module _ (part : Part) (fuse : Bool) (main settings window : List ℕ) where
   abbrev StartWell : StartTold → Type 0
   StartWell told = Told startNumbers (told .answer .number) (told .answer .entry)
@@ -155,13 +180,13 @@ module _ (part : Part) (fuse : Bool) (main settings window : List ℕ) where
   pub start-is-answered : StartWell (startOf part fuse main settings window)
   unfolding startOf startRead isOneOf pick
   start-is-answered =
-      let read = read-is-answered settings in
-      let number = readOf settings .number in
+      let read = taken-is-answered settings in
+      let number = settingsRead settings .number in
       by-pick StartWell fuse _ _ (λ y. (refl, omega arith))
       (λ n. by-pick StartWell (not (isMainSize part (length main))) _ _ (λ y. (refl, omega arith))
-      (λ n. by-pick StartWell (not (eqb (length settings) imageSize)) _ _ (λ y. (refl, omega arith))
+      (λ n. by-pick StartWell (not (eqb (length settings) (part .«settings_size»))) _ _ (λ y. (refl, omega arith))
       (λ n. by-pick StartWell (not (eqb (length window) (part .«window_size»))) _ _ (λ y. (refl, omega arith))
-      (λ n. by-pick StartWell (eqb (readOf settings .number) 0) _ _ (λ y. (refl, omega arith))
+      (λ n. by-pick StartWell (eqb (settingsRead settings .number) 0) _ _ (λ y. (refl, omega arith))
       (λ n. (one-of-more 1 (2 ∷ 11 ∷ readNumbers) number (one-of-more 2 (11 ∷ readNumbers) number (one-of-more 11 readNumbers number (read .0))), read .1))))))
 
 module _ (part : Part) (session : Session) (before : Memory) (wait : ℕ) (packet area : List ℕ) where
@@ -204,7 +229,7 @@ pub start-is-answered-from-C : (part : Part) (fuse : ℕ) (main settings window 
     → IsOneOf (10 ∷ startNumbers) (refusalIn (startFromC part fuse main settings window area .answer))
 unfolding isOneOf pick
 start-is-answered-from-C part fuse main settings window area =
-    storing-is-answered startNumbers (startByFuse part fuse main settings window .answer) recordSize (recordOf (startByFuse part fuse main settings window .session)) area
+    storing-is-answered startNumbers (startByFuse part fuse main settings window .answer) (recordSize part) (recordOf part (startByFuse part fuse main settings window .session)) area
     refl (start-is-answered part (not (eqb fuse 0)) main settings window)
 
 pub read-is-answered-from-C : (image area : List ℕ) → IsOneOf (10 ∷ readNumbers) (refusalIn (readFromC image area .answer))
@@ -270,7 +295,7 @@ module _ (part : Part) (area : List ℕ) (before : Memory) (wait : ℕ) (packet 
   call-is-answered-from-C =
       by-pick CalledWell (ltb (length reply) replyLimit) _ _ (λ y. refl)
       (λ n. by-pick CalledWell (not (eqb (length (before .window)) (part .«window_size»))) _ _ (λ y. refl)
-      (λ n. by-pick CalledWell (not (isRecordArea area)) _ _ (λ y. refl)
+      (λ n. by-pick CalledWell (not (isRecordArea part area)) _ _ (λ y. refl)
       (λ n. by-pick (λ after. CalledWell (calledFrom after left)) (eqb (left .answer .number) 0) _ _
       (λ y. subst (IsOneOf callNumbers) (sym (served-says-0 (left .answer .burn))) refl)
       (λ n. subst (IsOneOf callNumbers) (sym (refusal-is (numbered (left .answer .number) 0) (omega arith))) (call-is-answered part (sessionIn area) before wait packet reply)))))

@@ -2,10 +2,10 @@
 use borrow.Author.Needs.{needs}
 use borrow.Author.Tests.{eq-eqb, ne-eqb}
 use Rattle.octets.specs.Choice.{pick}
-use Rattle.settings.specs.Layout.{layoutOf}
+use Rattle.settings.specs.Layout.{layoutBy}
 use Rattle.settings.specs.Reader.{checkedIn}
 use native.Mathlib.Omega.{arith}
-use Rattle.settings.proofs.LayoutLaws.{count-is-few}
+use Rattle.settings.proofs.LayoutLaws.{few-entries}
 use Rattle.settings.proofs.ReaderLaws.{differing-entry-there}
 use Rattle.settings.proofs.checks.check_form.Statement.{statement}
 use Rattle.settings.proofs.checks.check_form.Tie as tie
@@ -16,10 +16,11 @@ check-form-spec =
     tie.close
     (tie.spec
     (λ c κs. search needs)
-    (λ c. let a = c .before .before .before .args in record { fits = omega (arith, c .before .differing-entry .ensures, differing-entry-there (layoutOf (a .form)) (a .image .now), count-is-few (a .form)) })
-    (λ c. rw (← c .before .differing-entry .ensures, ne-eqb _ _ (c .if1 .taken)))
     (λ c κs. search needs)
-    (λ c. rw (← c .before .before .before .differing-entry .ensures, eq-eqb _ _ (c .before .before .if1 .left), ← c .before .filler-differs .ensures, c .if2 .taken))
+    (λ c. let a = c .before .before .before .before .args in record { fits = omega (arith, c .before .differing-entry .ensures, differing-entry-there (layoutBy (c .before .before .shape-of .result)) (a .image .now), few-entries (c .before .before .shape-of .result)) })
+    (λ c. rw (← c .before .before .shape-of .ensures, ← c .before .differing-entry .ensures, ne-eqb _ _ (c .if1 .taken)))
     (λ c κs. search needs)
-    (λ c. rw (← c .before .before .before .before .before .differing-entry .ensures, eq-eqb _ _ (c .before .before .before .before .if1 .left), ← c .before .before .before .filler-differs .ensures, c .before .before .if2 .left, ← c .before .value-not-allowed .ensures, c .if3 .taken))
-    (λ c. rw (← c .before .before .before .before .before .differing-entry .ensures, eq-eqb _ _ (c .before .before .before .before .if1 .left), ← c .before .before .before .filler-differs .ensures, c .before .before .if2 .left, ← c .before .value-not-allowed .ensures, c .if3 .left)))
+    (λ c. rw (← c .before .before .before .before .shape-of .ensures, ← c .before .before .before .differing-entry .ensures, eq-eqb _ _ (c .before .before .if1 .left), ← c .before .filler-differs .ensures, c .if2 .taken))
+    (λ c κs. search needs)
+    (λ c. rw (← c .before .before .before .before .before .before .shape-of .ensures, ← c .before .before .before .before .before .differing-entry .ensures, eq-eqb _ _ (c .before .before .before .before .if1 .left), ← c .before .before .before .filler-differs .ensures, c .before .before .if2 .left, ← c .before .value-not-allowed .ensures, c .if3 .taken))
+    (λ c. rw (← c .before .before .before .before .before .before .shape-of .ensures, ← c .before .before .before .before .before .differing-entry .ensures, eq-eqb _ _ (c .before .before .before .before .if1 .left), ← c .before .before .before .filler-differs .ensures, c .before .before .if2 .left, ← c .before .value-not-allowed .ensures, c .if3 .left)))

@@ -4,7 +4,7 @@ use borrow.Author.Needs.{needs}
 use borrow.Author.Tests.{eq-eqb, ne-eqb}
 use Rattle.octets.specs.Choice.{pick}
 use Rattle.settings.specs.Reader.{isForm}
-use Rattle.settings.proofs.LayoutLaws.{count-is-few}
+use Rattle.settings.proofs.LayoutLaws.{few-entries}
 use Rattle.settings.proofs.checks.is_form.Statement.{statement}
 use Rattle.settings.proofs.checks.is_form.Tie as tie
 
@@ -15,8 +15,9 @@ is-form-spec =
     (tie.spec
     (λ c κs. search needs)
     (λ c κs. search needs)
-    (λ c. rw (← c .before .before .number16-at .ensures, ← c .before .form-number .ensures, ne-eqb _ _ (c .if1 .taken)))
+    (λ c κs. search needs)
+    (λ c. rw (← c .before .before .number16-at .ensures, ← c .before .before .before .shape-of .ensures, ← c .before .form-number .ensures, ne-eqb _ _ (c .if1 .taken)))
     (λ c κs. search needs)
     (λ c κs. search needs)
-    (λ c. record { fits = omega (arith, c .entries-of .ensures, count-is-few (c .before .before .before .before .before .before .args .form)) })
-    (λ c. rw (← c .before .before .before .before .number16-at .ensures, ← c .before .before .before .form-number .ensures, eq-eqb _ _ (c .before .before .if1 .left), c .before .number16-at2 .ensures, c .entries-of .ensures)))
+    (λ c. record { fits = omega (arith, c .entries-of .ensures, few-entries (c .before .before .before .before .before .shape-of .result)) })
+    (λ c. rw (← c .before .before .before .before .number16-at .ensures, ← c .before .before .before .before .before .shape-of .ensures, ← c .before .before .before .form-number .ensures, eq-eqb _ _ (c .before .before .if1 .left), c .before .number16-at2 .ensures, c .entries-of .ensures)))

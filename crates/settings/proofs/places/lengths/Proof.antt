@@ -1,4 +1,4 @@
--- `settings::places::lengths` meets its contract: form by form, by computation.
+-- `settings::places::lengths` meets its contract: shape by shape, by computation.
 use borrow.Author.Needs.{needs}
 use Rattle.settings.proofs.places.lengths.Statement.{statement}
 use Rattle.settings.proofs.places.lengths.Tie as tie
@@ -9,5 +9,7 @@ lengths-spec =
     (tie.spec
     (λ c. search needs)
     (λ c. search needs)
+    (λ c. search needs)
     (λ c. rw (c .enum-told .given .1))
-    (λ c. rw (c .enum-told2 .given .1)))
+    (λ c. rw (c .enum-told2 .given .1))
+    (λ c. rw (c .enum-told3 .given .1)))

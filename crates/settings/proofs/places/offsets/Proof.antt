@@ -1,4 +1,4 @@
--- `settings::places::offsets` meets its contract: form by form, by computation.
+-- `settings::places::offsets` meets its contract: shape by shape, by computation.
 use borrow.Author.Needs.{needs}
 use Rattle.settings.specs.Layout.{sumOf, offsetOf}
 use Rattle.settings.proofs.places.offsets.Statement.{statement}
@@ -11,5 +11,7 @@ offsets-spec =
     (tie.spec
     (λ c. search needs)
     (λ c. search needs)
+    (λ c. search needs)
     (λ c. rw (c .enum-told .given .1))
-    (λ c. rw (c .enum-told2 .given .1)))
+    (λ c. rw (c .enum-told2 .given .1))
+    (λ c. rw (c .enum-told3 .given .1)))

@@ -2,8 +2,8 @@
 use native.Mathlib.Omega.{arith}
 use borrow.Author.Needs.{needs}
 use mathlib.Core.Path.{sym, _∙_}
-use Rattle.settings.specs.Layout.{layoutOf, tableOf}
-use Rattle.settings.proofs.LayoutLaws.{table-at, count-is-few}
+use Rattle.settings.specs.Layout.{layoutBy, tableOf}
+use Rattle.settings.proofs.LayoutLaws.{table-at, few-entries}
 use Rattle.settings.proofs.places.table_number.Statement.{statement}
 use Rattle.settings.proofs.places.table_number.Tie as tie
 
@@ -15,12 +15,12 @@ table-number-spec =
     (λ c κs. search needs)
     (λ c. rw (c .before .if1 .taken, c .form-number .ensures))
     (λ c κs. search needs)
-    (λ c. record { fits = omega (arith, c .entries-of .ensures, count-is-few (c .before .before .before .args .form)) })
+    (λ c. record { fits = omega (arith, c .entries-of .ensures, few-entries (c .before .before .before .args .shape)) })
     (λ c. rw (c .before .if2 .taken, c .entries-of .ensures))
     (λ c. search needs)
     (λ c. search needs)
     (λ c. search needs)
-    (λ c κs. (omega arith, omega (arith, count-is-few (c .before .before .args .form))))
+    (λ c κs. (omega arith, omega (arith, few-entries (c .before .before .args .shape))))
     (λ c.
     let a = c .before .before .before .args in
-    c .entry-field .ensures ∙ sym (table-at (layoutOf (a .form)) (a .place) (omega arith) (omega arith))))
+    c .entry-field .ensures ∙ sym (table-at (layoutBy (a .shape)) (a .place) (omega arith) (omega arith))))

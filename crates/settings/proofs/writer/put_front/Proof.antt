@@ -11,9 +11,10 @@ put-front-spec =
     (λ c κs. search needs)
     (λ c κs. search needs)
     (λ c κs. search needs)
+    (λ c κs. search needs)
     (λ c. search needs)
     (λ c.
-    let start = c .before .before .before .before .before .before .before .before .before .before .before .before .before .before .before in
+    let start = c .before .before .before .before .before .before .before .before .before .before .before .before .before .before .before .before in
     let a = start .args in
-    rw (c .before .before .put-filler .ensures, c .before .before .before .before .before .before .put-bodies .ensures, c .before .before .before .before .before .before .before .before .before .before .put-table .ensures)
+    rw (c .before .before .put-filler .ensures, c .before .before .before .before .before .before .put-bodies .ensures, c .before .before .before .before .before .before .before .before .before .before .put-table .ensures, c .before .before .before .before .before .before .before .before .before .before .before .before .shape-of .ensures)
     (front-joined (a .form) (a .six .now) (a .name .now) (start .pre .1) (start .pre .2) (a .image .now))))
