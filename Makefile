@@ -4,13 +4,14 @@
 PREFIX ?= /usr/local
 N ?= 200000
 SCRIPT ?= crates/runner/stdin
+PART ?= mspm0
 IMAGE ?=
 OUT ?=
 SCOPE ?= ../shared/documents/01-scope.md
 REQUESTS ?= ../shared/documents/02-change-requests.md
 
 # Handed on by the environment, where a space or a quote in them does no harm.
-export PREFIX DESTDIR N SCRIPT IMAGE OUT SCOPE REQUESTS
+export PREFIX DESTDIR N SCRIPT PART IMAGE OUT SCOPE REQUESTS
 
 help:
 	@sed "s/{crates}/$$(grep -c '^[a-z_0-9]*:' crates.txt)/" tools/help.txt
@@ -24,11 +25,11 @@ quick:
 	@.ci/run --quick
 
 # A session: proves and builds the runner, and plays a script, or the text of one where its name ends in .txt.
-# Without SCRIPT= it is the example of document 01.
+# Without SCRIPT= it is the example of document 01; PART=am13e230x plays it to a board of that part.
 run:
-	@tools/sessions/look_at_script.sh "$$SCRIPT"
-	@tools/progress.py check runner
-	@tools/sessions/run_script.sh "$$SCRIPT"
+	@tools/sessions/look_at_script.sh "$$SCRIPT" "$$PART"
+	@tools/progress.py check runner$$([ "$$PART" = mspm0 ] || echo "_$$PART")
+	@tools/sessions/run_script.sh "$$SCRIPT" "$$PART"
 
 # A settings image mended: proves and builds the program, prints what it changed of IMAGE, and stores the mended image as OUT.
 mend:

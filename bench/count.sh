@@ -15,5 +15,7 @@ if [ $# -eq 0 ]; then
     set -- "$library"
 fi
 build_calls x86_64 $work "$@"
-qemu-x86_64 $work/calls agree
-python3 -B bench/count.py $work/calls | python3 -B bench/counted.py
+for program in calls calls_am13e230x; do
+    qemu-x86_64 $work/$program agree
+    python3 -B bench/count.py $work/$program
+done | python3 -B bench/counted.py

@@ -102,9 +102,14 @@ def machine():
                    "modules, compiled for it by the toolchain's clang at -O3; both models are compiled for it too.")
 
 
+def is_said(case, said):
+    """A call of the AM13E230x is explained with that of the MSPM0."""
+    return case.name.removeprefix("AM13E230x: ") in said
+
+
 def unexplained(cases):
     said = blocks.section("Where we are slower")
-    for name in sorted({case.name for case in cases if case.takes_more() and case.name not in said}):
+    for name in sorted({case.name for case in cases if case.takes_more() and not is_said(case, said)}):
         yield f"{name} takes more instructions than the model's, and docs/BENCH.md does not say why"
 
 

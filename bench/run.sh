@@ -21,14 +21,16 @@ find_emulator() {
 build_timed() {
     timed=$work/timed
     mkdir -p $timed
-    compile_natively target/staticlib/c_mspm0.bc $timed/c_mspm0.o
+    for crate in $boundary; do
+        compile_natively "target/staticlib/$crate.bc" "$timed/$crate.o"
+    done
     compile_natively "$exported_module" $timed/export.o
-    build_calls "$(uname -m)" $timed $timed/c_mspm0.o
+    build_calls "$(uname -m)" $timed $(printf "$timed/%s.o " $boundary)
     build_checksums "$(uname -m)" $timed $timed/export.o "$native_zlib"
 }
 
 agree() { # FOLDER EMULATOR
-    for program in calls checksums; do
+    for program in calls calls_am13e230x checksums; do
         $2 "$1/$program" agree || {
             say "$program: the sides do not agree, so nothing is measured" >&2
             exit 1
@@ -66,10 +68,12 @@ agree $counted qemu-x86_64
 agree $timed ""
 say "counting instructions, some 15 seconds"
 python3 -B bench/count.py $counted/calls >$work/calls.counts
+python3 -B bench/count.py $counted/calls_am13e230x >>$work/calls.counts
 python3 -B bench/count.py $counted/calls places >$work/places.counts
 python3 -B bench/count.py $counted/checksums >$work/checksums.counts
 say "timing, some 30 seconds"
 $timed/calls time >$work/calls.times
+$timed/calls_am13e230x time >>$work/calls.times
 $timed/checksums time >$work/checksums.times
 machine >$work/machine.tsv
 say "reading the stack off the code"

@@ -8,12 +8,15 @@
 #include <stddef.h>
 #include <stdint.h>
 
-#define BHORELMU_VERSION "4.1.0"
-#define BHORELMU_VERSION_NUMBER 40100 /* 10,000 for each major version, 100 for each minor, 1 for each patch */
+#define BHORELMU_VERSION "4.2.0"
+#define BHORELMU_VERSION_NUMBER 40200 /* 10,000 for each major version, 100 for each minor, 1 for each patch */
 
 /*
  * The device side of one boot loader session, on numbers and byte areas. docs/RECORD.md tells the same at length, and
- * examples/session.c is a whole session. C99 or later, or C++11 or later.
+ * examples/session.c and examples/session_am13e230x.c are whole sessions. C99 or later, or C++11 or later.
+ *
+ * There are two parts. bhorelmu_start and its like are the MSPM0's; bhorelmu_am13e230x_start and its like, at the end, are the
+ * AM13E230x's, and a record of the one is none of the other.
  *
  * An area is a pointer and its size in bytes; all numbers in it are least significant byte first. A refused call changes
  * no byte of any area.
@@ -124,7 +127,7 @@ enum bhorelmu_refusal_number {
 /*
  * Begins a session; any fuse but 0 is set. Of the window only the size is looked at. Refusals 1 to 3, then 11, then 4 to 8,
  * then 10 for a record area of another size.
- * Stack: 352 bytes on x86-64, 448 on thumbv6m.
+ * Stack: 368 bytes on x86-64, 472 on thumbv6m.
  */
 uint64_t bhorelmu_start(uint32_t fuse, const uint8_t *main_flash, size_t main_size, const uint8_t *settings,
                         size_t settings_size, const uint8_t *window, size_t window_size, uint8_t *record,
@@ -134,7 +137,7 @@ uint64_t bhorelmu_start(uint32_t fuse, const uint8_t *main_flash, size_t main_si
  * Lets `wait` milliseconds pass since the call before, or since start, then takes one packet, perhaps empty, and updates
  * the record, both flash areas and the window. Refusals 9, then 11, then 10 for an area that is no record's, for a MAIN of
  * another size than the record says, and for settings that are not 1,024 bytes. Bytes past the reply stay as lent.
- * Stack: 544 bytes on x86-64, 656 on thumbv6m.
+ * Stack: 576 bytes on x86-64, 696 on thumbv6m.
  */
 uint64_t bhorelmu_call(uint8_t *record, size_t record_size, uint8_t *main_flash, size_t main_size, uint8_t *settings,
                        size_t settings_size, uint8_t *window, size_t window_size, uint32_t wait, const uint8_t *packet,
@@ -145,14 +148,14 @@ uint64_t bhorelmu_call(uint8_t *record, size_t record_size, uint8_t *main_flash,
  * 133 of form 2), the name (134 to 197 of form 2; 0xFF of form 1) and the form; or those of the blank settings out of a
  * blank one, which counts as form 1.
  * Refusals 3 to 8, then 10 for a fields area of another size.
- * Stack: 560 bytes on x86-64, 608 on thumbv6m.
+ * Stack: 560 bytes on x86-64, 560 on thumbv6m.
  */
 uint64_t bhorelmu_settings_read(const uint8_t *image, size_t image_size, uint8_t *fields, size_t fields_size);
 
 /*
  * Makes a settings image around 140 bytes of fields, in the form that they name. Refusals 3, then 10 for a fields area of
  * another size, then 5 for a form that is neither 1 nor 2, then 8, then 41 for a name in form 1.
- * Stack: 672 bytes on x86-64, 676 on thumbv6m.
+ * Stack: 672 bytes on x86-64, 684 on thumbv6m.
  */
 uint64_t bhorelmu_settings_write(const uint8_t *fields, size_t fields_size, uint8_t *image, size_t image_size);
 
@@ -183,6 +186,60 @@ uint64_t bhorelmu_settings_mend(uint8_t *image, size_t image_size, uint8_t *coun
 
 /* Bits a second of rate ids 1 to 9; 0 for any other id. Stack: 48 bytes on x86-64, 40 on thumbv6m. */
 uint32_t bhorelmu_rate(uint32_t id);
+
+/* ---- the AM13E230x ---- */
+
+/*
+ * The larger shelf's part has sectors of 2,048 bytes, MAIN of 2,048 to 524,288 and settings of 2,048 at 0x60100800; it has
+ * no window and no form 1. What is not said here is as above: duties, phases, refusals, where the parts of a record stand,
+ * and the fields up to the version pointer.
+ */
+
+#define BHORELMU_AM13E230X_SETTINGS_SIZE 2048u
+#define BHORELMU_AM13E230X_RECORD_SIZE 118u /* at BHORELMU_RECORD_FIELDS stand 98 bytes, the first of the fields */
+#define BHORELMU_AM13E230X_FIELDS_SIZE 164u
+
+/* Where the last fields stand in an area of fields; those before are where BHORELMU_FIELD_PASSWORD and so on say. */
+#define BHORELMU_AM13E230X_FIELD_PROTECTION 66u /* 32 bytes, a bit a sector, as BHORELMU_FIELD_PROTECTION */
+#define BHORELMU_AM13E230X_FIELD_NAME 98u       /* 64 bytes; all 0xFF: none */
+#define BHORELMU_AM13E230X_FIELD_FORM 162u      /* 2 bytes: always 2 */
+
+/*
+ * Begins a session, as bhorelmu_start without a window: refusals 1 to 8, then 10 for a record area of another size, the
+ * MSPM0's 94 bytes among them.
+ * Stack: 400 bytes on x86-64, 672 on thumbv6m.
+ */
+uint64_t bhorelmu_am13e230x_start(uint32_t fuse, const uint8_t *main_flash, size_t main_size, const uint8_t *settings,
+                                  size_t settings_size, uint8_t *record, size_t record_size);
+
+/*
+ * One packet after one wait, as bhorelmu_call without a window. Refusals 9, then 10.
+ * Stack: 544 bytes on x86-64, 688 on thumbv6m.
+ */
+uint64_t bhorelmu_am13e230x_call(uint8_t *record, size_t record_size, uint8_t *main_flash, size_t main_size,
+                                 uint8_t *settings, size_t settings_size, uint32_t wait, const uint8_t *packet,
+                                 size_t packet_size, uint8_t *reply, size_t reply_size);
+
+/*
+ * Takes the 164 bytes of fields out of a settings image: bytes 60 to 221, then the form; or those of the blank settings out of
+ * a blank one, 2,048 bytes 0xFF, which counts as form 2.
+ * Refusals 3 to 8, then 10 for a fields area of another size. 7 also for a byte of 1,024 to 2,047 that is not 0xFF.
+ * Stack: 592 bytes on x86-64, 792 on thumbv6m.
+ */
+uint64_t bhorelmu_am13e230x_settings_read(const uint8_t *image, size_t image_size, uint8_t *fields, size_t fields_size);
+
+/*
+ * Makes a settings image around 164 bytes of fields, in its first 1,024 bytes, and 0xFF after. Refusals 3, then 10 for a fields
+ * area of another size, then 5 for a form that is not 2, then 8.
+ * Stack: 288 bytes on x86-64, 544 on thumbv6m.
+ */
+uint64_t bhorelmu_am13e230x_settings_write(const uint8_t *fields, size_t fields_size, uint8_t *image, size_t image_size);
+
+/*
+ * Bits a second of rate ids 1 to 9, and 4,000,000 of 0x10; 0 for any other id.
+ * Stack: 48 bytes on x86-64, 40 on thumbv6m.
+ */
+uint32_t bhorelmu_am13e230x_rate(uint32_t id);
 
 /* ---- the parts of an answer ---- */
 

@@ -3,7 +3,7 @@
 # The words are those that the toolchain calls clang with for x86-64, but for the core and -O2.
 core="--target=thumbv6m-none-eabi -mcpu=cortex-m0plus -ffunction-sections -fdata-sections -mllvm -trap-unreachable \
 -mllvm -no-trap-after-noreturn --no-default-config -Wno-override-module -Werror"
-code=target/stack/c_mspm0.s
+code=$(printf 'target/stack/%s.s ' $boundary)
 
 # target/stack/CRATE.s, and beside it CRATE.su, the frames.
 compile_for_core() { # CRATE
@@ -15,5 +15,7 @@ compile_for_core() { # CRATE
 
 compile_for_stack() {
     mkdir -p target/stack
-    compile_for_core c_mspm0
+    for crate in $boundary; do
+        compile_for_core "$crate" || return 1
+    done
 }

@@ -8,10 +8,11 @@ RULES is the file of document 01 and REQUESTS that of document 02, which are no 
 requests those stand in the index that a comment quotes. To be run in the repository's root.
 
 A quotation is a text in quotation marks in a comment of a crate, where the source named last before it, in the comment or else in the
-first comment of the file, is 01 or none. ".." in it stands for words left out. It counts for every sentence that it has words of. Words
-that stand in several sections of 01 count for the section that was named last, else for the first, and fewer than three such words
-for none; of several places in a section the first counts. Where the source named last is a request, as T-03, the quotation is of that
-request. A quotation belongs to the definition that its comment stands before or within, else to its file.
+first comment of the file, is 01 or none; between the two, for a comment within a definition, comes the source of what is quoted first
+before that definition. ".." in it stands for words left out. It counts for every sentence that it has words of. Words that stand in
+several sections of 01 count for the section that was named last, else for the first, and fewer than three such words for none; of
+several places in a section the first counts. Where the source named last is a request, as T-03, the quotation is of that request. A
+quotation belongs to the definition that its comment stands before or within, else to its file.
 
 Status 0: all is well. 1: INDEX is another, or a comment says that 01 or a request has words that it has not. 2: wrong use, or a file that cannot be
 read or written."""
@@ -132,6 +133,16 @@ def places_in_rules(quotation, source, named, rules):
     return list(sentences_of(quotation, named, rules))
 
 
+def source_above(text, comment, comments, otherwise):
+    """The source of what is quoted first before the definition that a comment stands within."""
+    if comment.group().startswith(" "):
+        name = definition_at(text, comment)
+        above = next((other for other in reversed(comments) if other.start() < comment.start() and not other.group().startswith(" ")), None)
+        if name and above and definition_at(text, above) == name:
+            return (SOURCE.findall(above.group().split('"')[0]) or [otherwise])[-1]
+    return otherwise
+
+
 def quotations_in(path, rules, requests):
     """Each quotation of 01 or of a request in a file: the sentences that it has words of, and the definition that it belongs to."""
     text = path.read_text()
@@ -140,9 +151,10 @@ def quotations_in(path, rules, requests):
     first = (SOURCE.findall(words[0]) or [""])[0] if words else ""
     section = named_section(words[0], rules) if words else None
     for comment, said in zip(comments, words):
+        unnamed = source_above(text, comment, comments, first)
         for found in QUOTATION.finditer(said):
             before = said[:found.start()]
-            source = (SOURCE.findall(before) or [first])[-1]
+            source = (SOURCE.findall(before) or [unnamed])[-1]
             if source.startswith("T-"):
                 yield places_in_request(found.group(1), source, requests), definition_at(text, comment)
             elif source in ("01", ""):

@@ -7,7 +7,7 @@
 PICTURE is docs/rooms.svg. To be run in the repository's root.
 
 The groups are the headings of crates.txt, and what is said of a room is the first sentence of the first comment in its src/lib.rt or
-src/main.rt, or else in its specs/Lib.antt. Below c_mspm0, where a call comes in, lies the way of a call, which is drawn in blue. A
+src/main.rt, or else in its specs/Lib.antt. Below c_mspm0 and c_am13e230x, where a call comes in, lies the way of a call, which is drawn in blue. A
 group without a room of that way stands at the side. An arrow from a room to one that it also reaches over another is left out.
 
 Status 0: all is well. 1: PICTURE is another, or a room stands on one that is listed after it, so that there is a way back up. 2: wrong
@@ -19,7 +19,7 @@ import pathlib
 import re
 import sys
 
-ENTRANCE = "c_mspm0"
+ENTRANCES = ["c_mspm0", "c_am13e230x"]  # the functions for C, of each part
 WIDTH = 900
 MARGIN = 8
 # A band has its title at its left end, then the slots of its rooms; at the picture's right end stand the rooms of the side, and the
@@ -57,8 +57,8 @@ def listed():
                 if other not in rooms:
                     raise Fault(f"crates.txt: {name} stands on {other}, which is not listed before it: that is a way back up")
             rooms[name] = Room(name, group, ours)
-    if ENTRANCE not in rooms:
-        raise Fault(f"crates.txt: {ENTRANCE}, where a call comes in, is not listed")
+    if ENTRANCES[0] not in rooms:
+        raise Fault(f"crates.txt: {ENTRANCES[0]}, where a call comes in, is not listed")
     return rooms
 
 
@@ -177,7 +177,8 @@ class Picture:
 
     def __init__(self, rooms):
         self.rooms = rooms
-        self.blue = {ENTRANCE} | reached(rooms, ENTRANCE)
+        self.entrances = [name for name in ENTRANCES if name in rooms]
+        self.blue = set(self.entrances).union(*(reached(rooms, name) for name in self.entrances))
         groups = list(dict.fromkeys(room.group for room in rooms.values()))
         self.middle = [group for group in groups if any(room.group == group and room.name in self.blue for room in rooms.values())]
         self.aside = [group for group in reversed(groups) if group not in self.middle]
@@ -292,7 +293,7 @@ class Picture:
     def draw_side_arrows(self):
         """From the side: all that lead to one room go down in one lane beside the bands, and come in at its head."""
         some = [arrow for arrow in arrows(self.rooms) if self.rooms[arrow[0]].group in self.aside]
-        ends = sorted({arrow[1] for arrow in some}, key=lambda name: (self.rooms[name].group in self.aside, self.boxes[name].top))
+        ends = sorted({arrow[1] for arrow in some}, key=lambda name: (self.rooms[name].group in self.aside, self.boxes[name].top, self.boxes[name].left))
         for first, last in some:
             box, end = self.boxes[first], self.boxes[last]
             lane = self.right + LANES * (1 + ends.index(last)) / (len(ends) + 1)
@@ -311,9 +312,9 @@ class Picture:
             self.draw_arrow(arrow)
         for name in self.boxes:
             self.draw_box(name)
-        entrance = self.boxes[ENTRANCE]
-        self.draw_path(f"M{entrance.left + 40:.0f} {entrance.top - 40:.0f} V{entrance.top - 3:.0f}", BLUE)
-        self.text(entrance.left + 48, entrance.top - 24, "a call from C", f'font-size="12" fill="{BLUE}"')
+        for entrance in (self.boxes[name] for name in self.entrances):
+            self.draw_path(f"M{entrance.left + 40:.0f} {entrance.top - 40:.0f} V{entrance.top - 3:.0f}", BLUE)
+            self.text(entrance.left + 48, entrance.top - 24, "a call from C", f'font-size="12" fill="{BLUE}"')
         self.text(MARGIN, MARGIN + 18, "The rooms", 'font-size="18" font-weight="bold"')
         for k, line in enumerate(WORDS.splitlines()):
             self.text(MARGIN, MARGIN + 44 + 18 * k, line, 'font-size="13"')

@@ -6,8 +6,9 @@
 prints of each: its crate, the file that it stands in, its name, and the functions that it breaks.
 
 A file crates/CRATE/must-fail/FILE.edit has one wrong program or several, which are tried in one run. Each begins with a line
-`# NAME (FUNCTION, FUNCTION): what it does`, which names the public functions that it breaks. After it come lines `file: src/x.rt`,
-`old: text` and `new: text`; a `file:` line holds for the pairs after it. Each old text stands in its file once.
+`# NAME (FUNCTION, FUNCTION): what it does`, which names the public functions that it breaks; one of a type is `TYPE::FUNCTION`. After it
+come lines `file: src/x.rt`, `old: text` and `new: text`; a `file:` line holds for the pairs after it. Each old text stands in its file
+once.
 
 Status 0, or 2 for wrong use. To be run in the repository's root."""
 import pathlib
@@ -17,6 +18,7 @@ import typing
 
 FIRST = re.compile(r"# (\w+) \(([^)]+)\): \S.*")
 FUNCTION = re.compile(r'^( *)(?:pub(?:\(crate\))? )?(?:extern "C" )?fn (\w+)', re.M)
+OWNER = re.compile(r"^impl (\w+) \{", re.M)
 
 
 class Misuse(Exception):
@@ -52,11 +54,12 @@ class Program(typing.NamedTuple):
 
 
 def functions_in(source):
-    """The place, name and text of each function of a file."""
+    """The place, name and text of each function of a file. The name of one that belongs to a type begins with the type's."""
     whole = source.read_text()
     for found in FUNCTION.finditer(whole):
         end = re.compile(rf"^{found[1]}\}}", re.M).search(whole, found.end())
-        yield found.start(), found[2], whole[found.start():end.end() if end else len(whole)]
+        owners = OWNER.findall(whole, 0, found.start()) if found[1] else []
+        yield found.start(), "::".join([*owners[-1:], found[2]]), whole[found.start():end.end() if end else len(whole)]
 
 
 def function_around(source, text):

@@ -681,6 +681,7 @@ static void check_rates(void)
     static const uint32_t rates[] = {0, 4800, 9600, 19200, 38400, 57600, 115200, 1000000, 2000000, 3000000, 0};
     for (uint32_t id = 0; id < sizeof rates / sizeof *rates; id++)
         check("rate", rates[id], bhorelmu_rate(id));
+    check("rate of the other part's 0x10", 0, bhorelmu_rate(0x10));
     check("rate of 257", 0, bhorelmu_rate(257));
     check("rate of 2^32 - 1", 0, bhorelmu_rate(0xFFFFFFFFu));
 }

@@ -55,6 +55,10 @@ printf '0 12\n0 1\n' >"$work/wrong line.txt"
 cp crates/runner/stdin "$work/script.txt"
 : >"$work/empty"
 refuses "no file is named" make run SCRIPT=
+refuses "no such part; there are mspm0" make run PART=msp430
+refuses "no such part" make run PART=
+refuses "no such part" make run PART=AM13E230x
+refuses "no such part" make run PART="mspm0 am13e230x"
 refuses "there is no such file" make run SCRIPT="$work/missing.txt"
 refuses "there is no such file" make run SCRIPT="$work/two words"
 refuses "a folder or a device" make run SCRIPT="$work"

@@ -1,5 +1,6 @@
-# Sessions through the built runner. Each NAME.txt below tests/sessions is made into a script, and what the runner prints of it is
-# held to NAME.expected; a byte less or more breaks its form. Then scripts that break the form in one way each. Run after `rt ci`.
+# Sessions through the built runners. Each NAME.txt below tests/sessions is made into a script, and what the runner prints of it, for those in
+# am13e230x the runner of that part, is held to NAME.expected; a byte less or more breaks its form. Then scripts that break the form in one way
+# each. Run after `rt ci`.
 set -u
 . tests/shared/complaints.sh
 seen=0
@@ -10,19 +11,23 @@ trap 'rm -rf "$work"' EXIT
 prints() { # WHAT FILE EXPECTED
     wanted=0
     [ "$3" != "$work/refusal" ] || wanted=1
-    tools/sessions/run_script.sh "$2" >"$work/printed"
+    tools/sessions/run_script.sh "$2" "$part" >"$work/printed"
     status=$?
     [ "$status" -eq "$wanted" ] || complain "$1: status $status"
     cmp "$work/printed" "$3" || complain "$1: not what is expected"
 }
 
-tools/is_current.sh target/bin/runner || rt check runner >"$work/log" 2>&1 || {
-    cat "$work/log"
-    exit 1
-}
+for runner in runner runner_am13e230x; do
+    tools/is_current.sh "target/bin/$runner" || rt check "$runner" >"$work/log" 2>&1 || {
+        cat "$work/log"
+        exit 1
+    }
+done
 echo 'bad script' >"$work/refusal"
 
 for text in tests/sessions/*/*.txt; do
+    part=mspm0
+    case $text in tests/sessions/am13e230x/*) part=am13e230x ;; esac
     name=$(basename "$text" .txt)
     script=$work/$name
     tools/sessions/make_script.py "$text" "$script" || complain "$name: no script"
@@ -36,9 +41,13 @@ for text in tests/sessions/*/*.txt; do
 done
 [ "$seen" -eq "$(ls tests/sessions/*/*.expected | wc -l)" ] || complain "a session has no text, or none was played"
 
-# What document 01 prints in full is the crate's own input and output.
+part=mspm0
+
+# What document 01 prints in full is the crate's own input and output, and so is the first session of the other part.
 cmp "$work/example" crates/runner/stdin || complain "the example is not the crate's input"
 cmp tests/sessions/commands/example.expected crates/runner/stdout || complain "the example is not the crate's output"
+cmp "$work/larger_session" crates/runner_am13e230x/stdin || complain "the first session is not the crate's input"
+cmp tests/sessions/am13e230x/larger_session.expected crates/runner_am13e230x/stdout || complain "the first session is not the crate's output"
 
 # A script that comes in pieces is read to its end.
 { head -c 11 "$work/example" && sleep 0.1 && tail -c +12 "$work/example"; } |
@@ -53,6 +62,9 @@ printf '#!/bin/sh\n[ "$1" = check ] || exec "%s" "$@"\n' "$(command -v rt)" >"$w
 chmod +x "$work/bin/rt"
 PATH="$work/bin:$PATH" make -s run SCRIPT="$work/two words.txt" >"$work/printed" 2>"$work/log" || complain "make run: status $?: $(cat "$work/log")"
 cmp "$work/printed" tests/sessions/commands/example.expected || complain "make run of a name with a space: not what is expected"
+PATH="$work/bin:$PATH" make -s run PART=am13e230x SCRIPT=tests/sessions/am13e230x/larger_session.txt >"$work/printed" 2>"$work/log" ||
+    complain "make run PART=am13e230x: status $?: $(cat "$work/log")"
+cmp "$work/printed" tests/sessions/am13e230x/larger_session.expected || complain "make run PART=am13e230x: not what is expected"
 
 # FRONT (printf's escapes) and so many zeros break the form.
 breaks() { # WHAT FRONT ZEROS

@@ -25,11 +25,11 @@ PLACEHOLDER = re.compile(r"\b(CRATE|MODULE|FUNCTION|NAME)\b")
 MARKER = re.compile(r"(<{7}|={7}|>{7}|\|{7})( |$)")
 
 # How a file defines. What is declared with its type is unindented or public: what is local to a proof cannot be cited. The parts
-# of a record and the cases of a data type stand two spaces in, those of a struct or an enum four.
+# of a record and the cases of a data type stand two spaces in, those of a struct, an enum or an impl four.
 DECLARED = re.compile(r"^(?: *(?:unfoldable |abbrev )?pub |(?:unfoldable |abbrev )?)([^\s():]+) :\s", re.M)
 ITEM = re.compile(r'^(?:pub(?:\(crate\))? )?(?:extern "C" )?(?:fn|const|mod) (\w+)', re.M)
-OWNER = re.compile(r"^(?:pub(?:\(crate\))? )?(?:record|data|struct|enum) (\w+).*\n((?:(?: .*)?\n)*)", re.M)
-PART = re.compile(r"^(?:  |    )(?:pub )?(\w[\w'-]*)(?: ?:|,|\(| \{)", re.M)
+OWNER = re.compile(r"^(?:pub(?:\(crate\))? )?(?:record|data|struct|enum|impl) (\w+).*\n((?:(?: .*)?\n)*)", re.M)
+PART = re.compile(r"^(?:  |    )(?:pub )?(?:fn |const )?(\w[\w'-]*)(?: ?:|,|\(| \{)", re.M)
 PARAMETER = re.compile(r"(\w+): ")
 FROM_LIBRARY = re.compile(r"^(?:ghost )?use (?:Prim|mathlib|lib|borrow\.Author)\.[^{\n]*\{([^}]*)\}", re.M)
 

@@ -44,6 +44,13 @@ pub other : N
 
 -- 01: "It never wraps."; T-01: "three bytes"
 pub third : N
+
+-- T-01: "three bytes"
+abbrev pub numbers : N
+numbers = record {
+  -- "A packet has"
+  count = 3;
+}
 CODE
 
 # In the small case the index has this ROW.
@@ -58,7 +65,7 @@ has '| 1.2 | "Others get no reply." | not quoted |'
 has '| 1.4 | "1 the fuse is set" | `sized` (`crates/one/specs/Rules.antt`) |'
 has '| 2.1 | "Others get no reply." | `silent` (`crates/one/specs/Rules.antt`) |'
 has '| 2.2 | "Nobody quotes this one, which is .." | not quoted |'
-has '| T-01.1 | "A packet has three bytes." | `third` (`crates/one/specs/Rules.antt`) |'
+has '| T-01.1 | "A packet has three bytes." | `third`, `numbers` (`crates/one/specs/Rules.antt`) |'
 has '| T-01.2 | "Nobody knows why." | not quoted |'
 grep -q 'T-02' "$work/index" && complain "the index has a request that nobody quotes"
 (cd "$work" && python3 -B "$root/tools/make_index.py" --check document requests index) || complain "an index just made is not current"

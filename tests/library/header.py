@@ -21,9 +21,9 @@ def named(prefix):
     return {name: int(number) for name, number in re.findall(rf"^#define ({prefix}\w+) (\d+)u\b", HEADER, re.M)}
 
 
-def places(title):
+def places(title, text=None):
     """Where the rows of the first table in a part begin."""
-    table = re.search(r"^\| bytes \|.*\n\|.*\n((?:\|.*\n)+)", section(title), re.M).group(1)
+    table = re.search(r"^\| bytes \|.*\n\|.*\n((?:\|.*\n)+)", text or section(title), re.M).group(1)
     return [int(place) for place in re.findall(r"^\| (\d+)", table, re.M)]
 
 
@@ -49,9 +49,16 @@ def faults_of_offsets():
         offsets = sorted(number for name, number in named(prefix).items() if name != "BHORELMU_RECORD_SIZE")
         if offsets != places(title):
             yield f"include/bhorelmu.h: the offsets {prefix}.. are {offsets}, and docs/RECORD.md has {places(title)}"
-    sizes = {"BHORELMU_RECORD_SIZE": "## The record: {} bytes", "BHORELMU_FIELDS_SIZE": "## The fields: {} bytes"}
+    larger = section("The AM13E230x").split("### Its fields")[1]
+    last = sorted(named("BHORELMU_AM13E230X_FIELD_").values())
+    if last != places("", larger)[1:]:
+        yield f"include/bhorelmu.h: the last fields of the AM13E230x are at {last}, and docs/RECORD.md has {places('', larger)[1:]}"
+    sizes = {"BHORELMU_RECORD_SIZE": "## The record: {} bytes", "BHORELMU_FIELDS_SIZE": "## The fields: {} bytes",
+             "BHORELMU_AM13E230X_RECORD_SIZE": "### Its record: {} bytes", "BHORELMU_AM13E230X_FIELDS_SIZE": "### Its fields: {} bytes",
+             "BHORELMU_AM13E230X_SETTINGS_SIZE": "## The AM13E230x"}
     for name, words in sizes.items():
-        if words.format(named("BHORELMU_")[name]) not in RECORD:
+        number = named("BHORELMU_").get(name, 0)
+        if words.format(number) not in RECORD or f"{number:,} bytes" not in RECORD:
             yield f"docs/RECORD.md: no heading has the number of {name}"
 
 

@@ -3,7 +3,7 @@ set -u
 . tests/shared/complaints.sh
 compile="gcc -pedantic -Wall -Wextra -Werror -fsyntax-only -Iinclude"
 for standard in c99 c11; do
-    $compile -std=$standard examples/session.c || complain "$standard does not take the header"
+    $compile -std=$standard examples/session.c && $compile -std=$standard examples/session_am13e230x.c || complain "$standard does not take the header"
 done
 $compile -std=c89 examples/session.c 2>&1 | grep -q 'wants C99 or later' || complain "c89 is not told which C is wanted"
 if command -v g++ >/dev/null; then

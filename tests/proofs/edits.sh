@@ -27,6 +27,12 @@ fn middle() -> u8 {
 fn three() -> u8 {
     middle() + 30
 }
+
+impl Kind {
+    fn number() -> u8 {
+        40
+    }
+}
 CODE
 printf 'use Prim\n\npub first : N\nfirst = 1\n\npub oneOf : N → N\noneOf n = first + n\n' >"$work/crates/low/specs/One.antt"
 
@@ -60,7 +66,9 @@ says 1 'c: changes what one of a speaks of' both "$in_one" "$(program 'c (two)' 
 says 1 'c: changes what two of b speaks of' both "$in_two" "$(program 'c (one)' src/lib.rt '= 9')"
 says 1 'c: changes three, which calls two of b' both "$in_two" "$(program 'c (three)' src/lib.rt '+ 30')"
 says 1 'docs/STATEMENT.md names it' both "$in_one" "$(program 'signed (two)' src/lib.rt '+ 20')"
+says 0 '' both "$in_one" "$(program 'c (Kind::number)' src/lib.rt 40)"
 says 1 'low has no function four' a "$(program 'a (one, four)' src/lib.rt '+ 10')"
+says 1 'low has no function number' a "$(program 'a (number)' src/lib.rt 40)"
 says 1 "'u8' does not stand once in src/lib.rt" a "$(program 'a (one)' src/lib.rt u8)"
 says 1 "there is no pair" a '# a (one): nothing'
 says 1 "is not '# NAME (FUNCTION, FUNCTION): what it does'" a "$(program 'one' src/lib.rt '+ 10')"

@@ -123,7 +123,7 @@ def all_promises():
     """What docs/PROMISES.md says of each function, by crate and name."""
     found = {}
     for crate, section in sections().items():
-        for name, paragraph in re.findall(r"^\*\*`(\w+)`\*\*(.*(?:\n.+)*)", section, re.M):
+        for name, paragraph in re.findall(r"^\*\*`([\w:]+)`\*\*(.*(?:\n.+)*)", section, re.M):
             found[crate, name] = paragraph
     return found
 

@@ -4,9 +4,9 @@ import pathlib
 import re
 import sys
 
-from wrong_programs import programs_of
+from wrong_programs import functions_in, programs_of
 
-FUNCTION = re.compile(r'^ *(pub )?(?:extern "C" )?fn (\w+)', re.M)
+PUBLIC = re.compile(r'^ *pub (?:extern "C" )?fn')
 
 
 def libraries():
@@ -17,11 +17,9 @@ def libraries():
 def public_functions(library):
     """Each public function of a library: its file, its name, and its text up to the brace that opens its body."""
     for source in sorted(library.glob("src/*.rt")):
-        text = source.read_text()
-        for found in FUNCTION.finditer(text):
-            if found.group(1):
-                head = re.split(r"^ *\{ *$", text[found.start():], maxsplit=1, flags=re.M)[0]
-                yield source, found.group(2), head
+        for _, name, text in functions_in(source):
+            if PUBLIC.match(text):
+                yield source, name, re.split(r"^ *\{ *$", text, maxsplit=1, flags=re.M)[0]
 
 
 def wrong_in(crate):

@@ -1,7 +1,7 @@
 #!/bin/sh
 # Tells what is wrong with a file that is to be played, before anything is proved: status 2 then, and else 0.
 #
-#     tools/sessions/look_at_script.sh FILE
+#     tools/sessions/look_at_script.sh FILE [PART]
 #
 # FILE is a script, or, where its name ends in .txt, the text of one (tools/sessions/make_script.py). A text under another name would
 # be taken for a script, and the runner would say no more than "bad script".
@@ -12,6 +12,13 @@ refuse() { # WHAT
     exit 2
 }
 
+case ${2-mspm0} in
+mspm0 | am13e230x) ;;
+*)
+    echo "PART=$2: no such part; there are mspm0, which it is without PART=, and am13e230x" >&2
+    exit 2
+    ;;
+esac
 file=${1:-}
 [ -n "$file" ] || refuse "no file is named; give one, as SCRIPT=tests/sessions/commands/flash.txt, or leave SCRIPT= out"
 [ -e "$file" ] || refuse "there is no such file; a path counts from the folder that make runs in"

@@ -1,8 +1,9 @@
 # How C is compiled and run beside the library, whose archive is x86-64 code: plainly on such a machine, elsewhere by a cross
-# compiler and an emulator. To be sourced in the repository's root; sets `cc`, `run` and `library`.
+# compiler and an emulator. To be sourced in the repository's root; sets `cc`, `run`, `library` and `boundary`.
 . tools/shared/kit.sh
 flags="-std=c11 -O2 -Wall -Wextra -Wpedantic -Werror -Iinclude"
 library=target/staticlib/libbhorelmu.a
+boundary="c_mspm0 c_am13e230x" # the crates that have the functions for C, one a part; each is an object of its own
 
 if [ "$(uname -m)" = x86_64 ]; then
     cc="gcc $flags"
@@ -29,13 +30,23 @@ compile_crate() { # CRATE
     (cd target/staticlib && $ar x "lib$1.a")
 }
 
+is_library_current() {
+    for crate in $boundary; do
+        tools/is_current.sh "target/staticlib/$crate.bc" || return 1
+    done
+    tools/is_current.sh "$library"
+}
+
 # The library, unless it is made of the crates as they stand.
 build_library() {
-    if tools/is_current.sh "$library" && tools/is_current.sh target/staticlib/c_mspm0.bc; then
-        return 0
-    fi
+    is_library_current && return 0
     mkdir -p target
-    find_compiler && make_keeping_kit && compile_crate c_mspm0 || return 1
+    find_compiler && make_keeping_kit || return 1
+    objects=
+    for crate in $boundary; do
+        compile_crate "$crate" || return 1
+        objects="$objects target/staticlib/$crate.o"
+    done
     rm -f "$library"
-    $ar rcs "$library" target/staticlib/c_mspm0.o
+    $ar rcs "$library" $objects
 }

@@ -1,6 +1,6 @@
 /*
  * Holds the product (bhorelmu_*) against the model (model_*): random boards and sessions, every area and answer
- * compared after every call.
+ * compared after every call. It is compiled for one part: with AM13E230X for that one, else for the MSPM0.
  *
  *     compare SEEDS [FIRST_SEED [pairs]]
  *
@@ -57,7 +57,8 @@ static bool seed_agrees(uint64_t seed)
     script.seed = seed;
     clear_sides(&sides, seed);
     step_agrees(&sides, choose_main(&dice, main_size));
-    step_agrees(&sides, choose_window(&dice));
+    if (WINDOW_BYTES > 0)
+        step_agrees(&sides, choose_window(&dice));
     step_agrees(&sides, choose_settings(&dice, main_size));
     for (int calls = 0; calls < CALLS_A_SEED && script.count < SCRIPT_ROOM;) {
         if (!step_agrees(&sides, choose_step(&dice, main_size, &sides.model)))
@@ -110,14 +111,14 @@ int main(int argc, char **argv)
         if (pairs ? !play_agrees(seed) : !all_agree(seed))
             return 1;
         if ((seed - first + 1) % SEEDS_A_LINE == 0)
-            fprintf(stderr, "%llu calls agree\n", (unsigned long long)(seed - first + 1) * CALLS_A_SEED);
+            fprintf(stderr, PART_NAME ": %llu calls agree\n", (unsigned long long)(seed - first + 1) * CALLS_A_SEED);
     }
     if (pairs)
         return 0;
     if (!wide_sizes_agree())
         return 1;
     int result = judge_coverage(seeds * CALLS_A_SEED);
-    printf("\n%llu calls of %llu seeds from %llu on agree\n", (unsigned long long)(seeds * CALLS_A_SEED),
+    printf("\n" PART_NAME ": %llu calls of %llu seeds from %llu on agree\n", (unsigned long long)(seeds * CALLS_A_SEED),
            (unsigned long long)seeds, (unsigned long long)first);
     return result;
 }

@@ -6,31 +6,46 @@ find_compiler || exit 2
 seeds=${1:-2000}
 work=$(mktemp -d) || exit 2
 trap 'rm -rf "$work"' EXIT
-compile="$cc -w $comparison_headers -Iverification/model"
-names="-Dmodel_start=bhorelmu_start -Dmodel_call=bhorelmu_call -Dmodel_settings_read=bhorelmu_settings_read
-    -Dmodel_settings_write=bhorelmu_settings_write -Dmodel_settings_to_form_2=bhorelmu_settings_to_form_2
-    -Dmodel_settings_to_form_1=bhorelmu_settings_to_form_1 -Dmodel_settings_mend=bhorelmu_settings_mend
-    -Dmodel_rate=bhorelmu_rate"
+compile="$cc -w $comparison_headers"
 
-for source in $comparison_sources; do
-    $compile -c "$source" -o "$work/$(basename "$source" .c).o" || exit 2
-done
+# From here on mistakes are made in this part's loader.
+use_part() { # PART
+    words=$(part_words "$1") before=bhorelmu_ objects=$work/$1
+    [ "$1" = mspm0 ] || before=bhorelmu_$1_
+    names=
+    for name in start call settings_read settings_write settings_to_form_2 settings_to_form_1 settings_mend rate; do
+        names="$names -Dmodel_${before#bhorelmu_}$name=$before$name"
+    done
+    mkdir -p "$objects" "$work/mutant"
+    for source in $comparison_sources; do
+        $compile $words -c "$source" -o "$objects/$(basename "$source" .c).o" || exit 2
+    done
+}
 
-# Reads mistakes, each its name and how sed puts it into model.c, and looks whether the comparison finds them. The words go to the comparison.
+# The model with a mistake, below $work/mutant; fails where there is none to be seen.
+make_mutant() { # EDIT
+    made=1
+    for file in model.c model.h form.h mspm0.h am13e230x.h; do
+        sed "$1" "verification/model/$file" >"$work/mutant/$file"
+        cmp -s "verification/model/$file" "$work/mutant/$file" || made=0
+    done
+    return "$made"
+}
+
+# Reads mistakes, each its name and how sed puts it into the model, and looks whether the comparison finds them. The words go to the comparison.
 missed=0
 tried=0
 try_mistakes() { # WORDS..
     while IFS='@' read -r mistake edit; do
         tried=$((tried + 1))
-        sed "$edit" verification/model/model.c >"$work/mutant.c"
-        if cmp -s verification/model/model.c "$work/mutant.c"; then
+        make_mutant "$edit" || {
             echo "NOT MADE   $mistake"
             missed=$((missed + 1))
             continue
-        fi
+        }
         rm -f "$work/compare"
-        $compile $names -c "$work/mutant.c" -o "$work/mutant.out" &&
-            $cc "$work"/*.o "$work/mutant.out" -o "$work/compare" || exit 2
+        $compile $words $names -c "$work/mutant/model.c" -o "$work/mutant/out" &&
+            $cc "$objects"/*.o "$work/mutant/out" -o "$work/compare" || exit 2
         $run "$work/compare" "$seeds" "$@" >"$work/report" 2>/dev/null
         if [ $? -ne 1 ]; then
             echo "NOT FOUND  $mistake"
@@ -41,6 +56,8 @@ try_mistakes() { # WORDS..
         echo "found      $mistake ($(sed -n 's/^difference: //p' "$work/report" | head -n 1)${steps:+, $steps steps})"
     done
 }
+
+use_part mspm0
 
 # That Program stores and makes no AND is none: it programs what is 0xFF (T-02).
 try_mistakes <<'MISTAKES'
@@ -136,7 +153,14 @@ Unlock of wrong L counts@s/^    if (refusal == DONE)/    if (refusal == COMMAND_
 Start of wrong L ends@s/^    if (refusal == DONE)/    if (core[0] == START) loader->phase = ENDED, loader->unlocked = false;\n&/
 Start keeps the lock open@/case START:/,/return 0/s/        loader->unlocked = false;//
 Connect locks@s/default: \/\* Connect \*\//&\n        loader->unlocked = false;/
-rate id 9 refused@s/core\[1\] > RATE_LARGEST/core[1] >= RATE_LARGEST/
+rate id 9 refused@s/id <= 9) || id == LAST_RATE/id < 9)/
+rate id 0x10 taken@s/id == LAST_RATE;/id == 0x10;/
+record of the other part taken@s/record_size != RECORD_SIZE/record_size != RECORD_SIZE \&\& record_size != 118/
+start takes a record of the other part@/^static uint64_t start(/,/^}/s/record_size != RECORD_SIZE/record_size != RECORD_SIZE \&\& record_size != 118/
+reader takes fields of the other part@/^static uint64_t settings_read/,/^}/s/fields_size != FIELDS_SIZE/fields_size != FIELDS_SIZE \&\& fields_size != 164/
+writer takes fields of the other part@/^static uint64_t settings_write/,/^}/s/fields_size != FIELDS_SIZE/fields_size != FIELDS_SIZE \&\& fields_size != 164/
+version of 8 bytes@/^enum { PROGRAM_UNIT = 8/s/VERSION_SIZE = 4/VERSION_SIZE = 8/
+protection of 32 bytes in the table@s/{6, 126, 8, 0}/{6, 126, 32, 0}/
 L 1,722 taken@s/length > CORE_LARGEST/length > CORE_LARGEST + 1/
 checksum before the size@s/    if (size != length + FRAME_SIZE)/    if (size > length + FRAME_SIZE \&\& checksum(packet + 3, length) != get32(packet + 3 + length)) return CHECKSUM_INCORRECT;\n&/
 header after the size@s/    if (packet\[0\] != COMMAND_HEADER)/    if (size >= 3 \&\& packet[0] != COMMAND_HEADER)/
@@ -149,8 +173,8 @@ Verify of 1,024 refused@s/count < VERIFY_LEAST/count <= VERIFY_LEAST/
 range before Verify's size@s/    if (count < VERIFY_LEAST)/    if (count < VERIFY_LEAST \&\& place != NULL)/
 Factory reset in mode 1 wants the password@s/fields\[RESET_MODE\] == RESET_WITH_PASSWORD &&/(fields[RESET_MODE] == RESET_WITH_PASSWORD || length == 17) \&\&/
 Factory reset takes no password in mode 2@s/(length == 1 || memcmp(\(.*\)) != 0))/(length != 1 \&\& memcmp(\1) != 0))/
-version at any pointer@s/pointer % 4 == 0 && //
-version not at size - 4@s/pointer <= loader->main_size - 4/pointer < loader->main_size - 4/
+version at any pointer@s/pointer % VERSION_SIZE == 0 \&\& //
+version not at size - 4@s/pointer <= loader->main_size - VERSION_SIZE/pointer < loader->main_size - VERSION_SIZE/
 version pointer added in 32 bits@s/    bool in_main = /    if (pointer == 0xFFFFFFFCu) pointer = 0;\n&/
 byte past the reply written@s/        return 1;$/        return (reply[1] = 0, 1);/
 blank image refused@s/    if (all_ones(image, SETTINGS_SIZE))$/    if (0)/
@@ -166,11 +190,11 @@ form 2 started at form 1's places@s/form != NULL ? settings + form->bodies_at/fo
 filler of form 2 from 126@/^static const struct form form_2/,/^$/s/198,/126,/
 filler of form 2 looked at from 199@s/all_ones(image + (\*form)->filler_at, CHECKSUM_AT - (\*form)->filler_at)/all_ones(image + (*form)->filler_at + (*form == \&form_2), CHECKSUM_AT - (*form)->filler_at - (*form == \&form_2))/
 filler of form 1 looked at from 198@s/all_ones(image + (\*form)->filler_at, CHECKSUM_AT - (\*form)->filler_at)/all_ones(image + 198, CHECKSUM_AT - 198)/
-blank counts as form 2@s/form == &form_2 ? 2 : 1/form != \&form_1 ? 2 : 1/
+blank counts as form 2@s/BLANK_FORM = 1/BLANK_FORM = 2/
 blank's name is zeros@s/memset(fields + NAME, 0xFF, NAME_SIZE)/memset(fields + NAME, form == NULL ? 0 : 0xFF, NAME_SIZE)/
 name of form 1 is zeros@s/memset(fields + NAME, 0xFF, NAME_SIZE)/memset(fields + NAME, form == \&form_1 ? 0 : 0xFF, NAME_SIZE)/
 name not read@s/^    if (form == &form_2)$/    if (0)/
-always form 1 written@s/write_image(number == 1 ? &form_1 : &form_2/write_image(\&form_1/
+always form 1 written@s/write_image(form, fields, image)/write_image(\&form_1, fields, image)/
 name not written@s/form->filler_at - form->bodies_at); \/\*/KEPT_SIZE); \/*/
 entry's zero not looked at@s/i < ENTRY_FIELDS; i++, field += 2)$/i < ENTRY_FIELDS; i++, field += 2) if (i != 3)/;/^static void write_image/,/^}/s/ if (i != 3)//
 entries counted from 0@s/return entry + 1;/return entry;/
@@ -179,13 +203,13 @@ body 3's zero byte not looked at@s/ && fields\[ZERO\] == 0//
 alert 3 allowed@s/fields\[ALERT\] <= ALERT_DISABLE/fields[ALERT] <= ALERT_DISABLE + 1/
 writer leaves old filler@s/    memset(image + form->filler_at.*//
 writer refuses 8 before 10@s/^    if (fields_size != FIELDS_SIZE)$/    if (fields_size >= KEPT_SIZE \&\& image_size == SETTINGS_SIZE \&\& !body_3_allowed(fields)) return refused(8);\n&/
-writer refuses 8 before 5@s/^    if (number != 1 && number != 2)$/    if (!body_3_allowed(fields)) return refused(8);\n&/
-writer refuses 41 before 8@/^uint64_t model_settings_write/,/^}/s/^    if (!body_3_allowed(fields))$/    if (number == 1 \&\& !all_ones(fields + NAME, NAME_SIZE)) return refused(41);\n&/
-writer takes form 0@s/number != 1 && number != 2/number > 2/
-form in the fields cut to a byte@s/number = get16(fields + FORM)/number = fields[FORM]/
-writer drops a name in form 1@s/^    if (number == 1 && !all_ones(fields + NAME, NAME_SIZE))$/    if (0)/
+writer refuses 8 before 5@s/^    if (form == NULL)$/    if (!body_3_allowed(fields)) return refused(8);\n&/
+writer refuses 41 before 8@/^static uint64_t settings_write/,/^}/s/^    if (!body_3_allowed(fields))$/    if (form != \&form_2 \&\& !all_ones(fields + NAME, NAME_SIZE)) return refused(41);\n&/
+writer takes form 0@s/form_numbered(get16(fields + FORM))/form_numbered(get16(fields + FORM) == 0 ? 1 : get16(fields + FORM))/
+form in the fields cut to a byte@s/form_numbered(get16(fields + FORM))/form_numbered(fields[FORM])/
+writer drops a name in form 1@s/^    if (form != &form_2 && !all_ones(fields + NAME, NAME_SIZE))$/    if (0)/
 last byte of a name not looked at@s/all_ones(fields + NAME, NAME_SIZE)/all_ones(fields + NAME, NAME_SIZE - 1)/
-name refused in form 2@s/if (number == 1 && !all_ones/if (!all_ones/
+name refused in form 2@s/if (form != &form_2 && !all_ones/if (!all_ones/
 move drops a name@/^uint64_t model_settings_to_form_1/,/^}/s/^    if (!all_ones(fields + NAME, NAME_SIZE))$/    if (0)/
 move forth with a name of zeros@/^uint64_t model_settings_to_form_2/,/^}/s/^    write_image/    memset(fields + NAME, 0, NAME_SIZE);\n&/
 move rewrites a blank image@/^uint64_t model_settings_to_form_2/,/^}/s/answer != 0 || form == NULL/answer != 0/
@@ -235,11 +259,11 @@ reply area of 1,728 taken@s/reply_size < REPLY_AREA/reply_size < REPLY_AREA - 1/
 10 checked before 9@s/^    if (reply_size < REPLY_AREA)/    if (record_size == RECORD_SIZE \&\& !is_record(record)) return refused(10);\n&/
 standby checked before 10@s/^    if (settings_size != SETTINGS_SIZE || main_size/    if (record[AT_PHASE] > COMMAND) return 0;\n&/
 fuse taken by its low byte@s/if (fuse != 0)/if ((uint8_t)fuse != 0)/
-rate id cut to a byte@s/id >= 1 && id <= RATE_LARGEST ? rates\[id - 1\] : 0/(uint8_t)id >= 1 \&\& (uint8_t)id <= RATE_LARGEST ? rates[(uint8_t)id - 1] : 0/
+rate id cut to a byte@s/^static uint32_t rate(uint32_t id)/static uint32_t rate(uint8_t id)/
 record keeps a start's old lock@s/memset(record, 0, AT_FIELDS)/memset(record + AT_SLEEP, 0, 16); record[AT_WRONG_COUNT] = 0/
 window a byte early@s/WINDOW_START 0x20000160u/WINDOW_START 0x2000015Fu/
 window a byte longer@s/count <= WINDOW_START + WINDOW_SIZE - first/count <= WINDOW_START + WINDOW_SIZE + 1 - first/
-window without its last byte@s/address - WINDOW_START < WINDOW_SIZE/address - WINDOW_START < WINDOW_SIZE - 1/
+window without its last byte@s/address < WINDOW_START + WINDOW_SIZE/address < WINDOW_START + WINDOW_SIZE - 1/
 Program of the window by AND@s/^        memcpy(place, core + 5, count);/        for (uint32_t i = 0; i < count; i++) place[i] \&= core[5 + i];/
 Program of the window wants an aligned address@s/^    if (in_window(first)) {/    if (in_window(first) \&\& first % PROGRAM_UNIT == 0) {/
 Program of the window wants an aligned size@s/^    if (in_window(first)) {/    if (in_window(first) \&\& count % PROGRAM_UNIT == 0) {/
@@ -261,7 +285,7 @@ window above 3,456 bytes taken@s/^    if (window_size != WINDOW_SIZE)/    if (wi
 standby before 11@s/^    if (window_size != WINDOW_SIZE)/    if (record_size == RECORD_SIZE \&\& is_record(record) \&\& settings_size == SETTINGS_SIZE \&\& main_size == get32(record + AT_MAIN_SIZE) \&\& record[AT_PHASE] > COMMAND) return 0;\n&/
 11 not looked at by start@s/settings_size == SETTINGS_SIZE && window_size != WINDOW_SIZE/0/
 11 before 3 at start@s/settings_size == SETTINGS_SIZE && window_size != WINDOW_SIZE/window_size != WINDOW_SIZE/
-11 after 8 at start@s/settings_size == SETTINGS_SIZE && window_size != WINDOW_SIZE/0/;/^uint64_t model_start/,/^}/s/^    if (record_size != RECORD_SIZE)/    if (window_size != WINDOW_SIZE) return refused(11);\n&/
+11 after 8 at start@s/settings_size == SETTINGS_SIZE && window_size != WINDOW_SIZE/0/;/^static uint64_t start(/,/^}/s/^    if (record_size != RECORD_SIZE)/    if (window_size != WINDOW_SIZE) return refused(11);\n&/
 window size cut to 16 bits@s/^    if (window_size != WINDOW_SIZE)/    if ((uint16_t)window_size != WINDOW_SIZE)/
 MAIN size cut to 32 bits@s/static bool main_size_allowed(size_t size)/static bool main_size_allowed(uint32_t size)/
 record size cut to 16 bits@s/record_size != RECORD_SIZE/(uint16_t)record_size != RECORD_SIZE/
@@ -278,10 +302,92 @@ pairs: strike leaves the settings@/fields\[ALERT\] == ALERT_RESET/{n;s/erase_eve
 pairs: strike erases protected settings@/^static void erase_everything/,/^}/s/    if (!loader->fields\[SETTINGS_PROTECTED\])/    if (1)/
 pairs: only the first byte of a password compared@s/memcmp(core + 1, loader->fields + PASSWORD, PASSWORD_SIZE)/memcmp(core + 1, loader->fields + PASSWORD, 1)/
 pairs: password compared with the flash@s/memcmp(core + 1, loader->fields + PASSWORD,/memcmp(core + 1, loader->settings + (get16(loader->settings) == 2 ? form_2.bodies_at : form_1.bodies_at),/
-pairs: another version told@s/get32(loader->main_flash + pointer)/get32(loader->main_flash + (pointer + 8 <= loader->main_size ? pointer + 4 : pointer))/
+pairs: another version told@s/loader->main_flash + pointer, VERSION_SIZE)/loader->main_flash + (pointer + 2 * VERSION_SIZE <= loader->main_size ? pointer + VERSION_SIZE : pointer), VERSION_SIZE)/
 pairs: a locked board told apart by its form@s/^    if (refusal == DONE)/    if (refusal == LOCKED \&\& get16(loader->settings) == 2) loader->idle = 1;\n&/
 pairs: a locked board told apart by its name@s/^    if (refusal == DONE)/    if (refusal == LOCKED \&\& get16(loader->settings) == 2 \&\& loader->settings[134] % 2 == 0) loader->idle = 1;\n&/
 pairs: a locked board told apart by its flash@s/^    if (refusal == DONE)/    if (refusal == LOCKED \&\& loader->main_flash[0] % 2 == 0) loader->idle = 1;\n&/
+MISTAKES
+
+# T-10: what the AM13E230x has otherwise.
+use_part am13e230x
+try_mistakes <<'MISTAKES'
+AM13E230x: only the first 8 bytes of protection looked at@s/return loader->fields\[PROTECTION + sector \/ 8\] >> sector % 8 & 1;/return sector < 64 \&\& (loader->fields[PROTECTION + sector \/ 8] >> sector % 8 \& 1);/
+AM13E230x: protection of the first 64 sectors again and again@s/fields\[PROTECTION + sector \/ 8\]/fields[PROTECTION + sector \/ 8 % 8]/
+AM13E230x: the 256th sector always open@s/return loader->fields\[PROTECTION + sector/return sector != 255 \&\& loader->fields[PROTECTION + sector/
+AM13E230x: protection taken by 1,024 bytes@s/PROTECTION + sector \/ 8\] >> sector % 8 & 1/PROTECTION + 2 * sector \/ 8 % PROTECTION_SIZE] >> 2 * sector % 8 \& 1/
+AM13E230x: sectors of 1,024 bytes@s/SECTOR_SIZE = 2048/SECTOR_SIZE = 1024/
+AM13E230x: half of each sector erased@/^static void erase_sectors/,/^}/s/0xFF, SECTOR_SIZE)/0xFF, SECTOR_SIZE \/ 2)/
+AM13E230x: alert and Factory reset erase half of the settings@/^static void erase_everything/,/^}/s/0xFF, SETTINGS_SIZE)/0xFF, IMAGE_END)/
+AM13E230x: alert erases half of the settings@/^static enum message wrong_password/,/^}/s/        erase_everything(loader);/        { erase_main(loader); if (!loader->fields[SETTINGS_PROTECTED]) memset(loader->settings, 0xFF, IMAGE_END); }/
+AM13E230x: Factory reset erases half of the settings@/^static enum message factory_reset/,/^}/s/    erase_everything(loader);/    erase_main(loader); if (!loader->fields[SETTINGS_PROTECTED]) memset(loader->settings, 0xFF, IMAGE_END);/
+AM13E230x: blank told by the first half@s/all_ones(image, SETTINGS_SIZE)/all_ones(image, IMAGE_END)/
+AM13E230x: blank told by the second half too late@s/    if (all_ones(image, SETTINGS_SIZE))/    if (all_ones(image, IMAGE_END) \&\& !all_ones(image + IMAGE_END, IMAGE_END)) return refused(7);\n&/
+AM13E230x: second half not looked at@s/if (size > IMAGE_END \&\& !all_ones/if (0 \&\& !all_ones/
+AM13E230x: last byte of the second half not looked at@s/all_ones(image + IMAGE_END, size - IMAGE_END)/all_ones(image + IMAGE_END, size - IMAGE_END - 1)/
+AM13E230x: first byte of the second half not looked at@s/all_ones(image + IMAGE_END, size - IMAGE_END)/all_ones(image + IMAGE_END + 1, size - IMAGE_END - 1)/
+AM13E230x: second half looked at after 8@s/^    if (size > IMAGE_END \&\& !all_ones/    if (body_3_allowed(image + (*form)->bodies_at) \&\& size > IMAGE_END \&\& !all_ones/
+AM13E230x: second half not written@s/    memset(image + IMAGE_END, 0xFF, SETTINGS_SIZE - IMAGE_END);//
+AM13E230x: second half out of reach@s/offset < SETTINGS_SIZE \&\& count <= SETTINGS_SIZE - offset/offset < IMAGE_END \&\& count <= IMAGE_END - offset/
+AM13E230x: rate id 10 for 0x10@s/LAST_RATE = 0x10/LAST_RATE = 10/
+AM13E230x: rate ids 11 to 15 taken@s/id == LAST_RATE;/(id >= 11 \&\& id <= LAST_RATE);/
+AM13E230x: rate id 0x0A taken@s/id == LAST_RATE;/id == LAST_RATE || id == 10;/
+AM13E230x: rate id 0x10 not taken@s/ || id == LAST_RATE;/;/
+AM13E230x: rate id 0x10 not taken in a packet@s/!is_rate(core\[1\])/(core[1] < 1 || core[1] > 9)/
+AM13E230x: rate ids to 0x10 taken in a packet@s/!is_rate(core\[1\])/(core[1] < 1 || core[1] > 0x10)/
+AM13E230x: rate id 0x10 not taken in a record@s/!is_rate(record\[AT_RATE_ID\])/(record[AT_RATE_ID] < 1 || record[AT_RATE_ID] > 9)/
+AM13E230x: rate ids to 0x10 taken in a record@s/!is_rate(record\[AT_RATE_ID\])/(record[AT_RATE_ID] < 1 || record[AT_RATE_ID] > 0x10)/
+AM13E230x: rate of the other part@s/    if (!is_rate(id))/    if (id < 1 || id > 9)/
+AM13E230x: rate 0x10 told as 3000000@s/: 4000000;/: 3000000;/
+AM13E230x: words of 8 bytes@s/PROGRAM_UNIT = 16/PROGRAM_UNIT = 8/
+AM13E230x: address at a multiple of 8@s/first % PROGRAM_UNIT != 0 ||/first % 8 != 0 ||/
+AM13E230x: data size a multiple of 8@s/count % PROGRAM_UNIT != 0)/count % 8 != 0)/
+AM13E230x: first half of each word looked at@s/if (!all_ones(place, count))/bool blank = true;\n    for (uint32_t i = 0; i < count; i += PROGRAM_UNIT) blank = blank \&\& all_ones(place + i, PROGRAM_UNIT \/ 2);\n    if (!blank)/
+AM13E230x: Verify from 1,024@s/VERIFY_LEAST = 2048/VERIFY_LEAST = 1024/
+AM13E230x: Verify of 2,048 refused@s/count < VERIFY_LEAST/count <= VERIFY_LEAST/
+AM13E230x: Verify to 65,536@s/    if (count < VERIFY_LEAST)/    if (count > 65536) return send_message(reply, RANGE_INVALID);\n&/
+AM13E230x: MAIN to 64 KiB@s/MAIN_LARGEST = 524288/MAIN_LARGEST = 65536/
+AM13E230x: MAIN above 512 KiB@s/MAIN_LARGEST = 524288/MAIN_LARGEST = 526336/
+AM13E230x: MAIN in steps of 1,024@s/size % SECTOR_SIZE == 0/size % 1024 == 0/
+AM13E230x: MAIN of 1,024@s/size >= SECTOR_SIZE \&\&/(size == 1024 || size >= SECTOR_SIZE) \&\&/;s/size % SECTOR_SIZE == 0/(size == 1024 || size % SECTOR_SIZE == 0)/
+AM13E230x: settings where the other part has them@s/SETTINGS_START 0x60100800u/SETTINGS_START 0x41C00000u/
+AM13E230x: settings of 1,024 bytes@s/SETTINGS_SIZE = 2048/SETTINGS_SIZE = 1024/
+AM13E230x: start takes settings of 1,024 bytes@/^static uint64_t start(/,/^}/s/judge_image(settings, settings_size, forms/judge_image(settings, settings_size == 1024 ? SETTINGS_SIZE : settings_size, forms/
+AM13E230x: call takes settings of 1,024 bytes@s/    if (settings_size != SETTINGS_SIZE || main_size/    if ((settings_size != SETTINGS_SIZE \&\& settings_size != 1024) || main_size/
+AM13E230x: version of 4 bytes@s/VERSION_SIZE = 8/VERSION_SIZE = 4/
+AM13E230x: version at a multiple of 4@s/pointer % VERSION_SIZE == 0/pointer % 4 == 0/
+AM13E230x: version's halves changed about@s/memcpy(version, loader->main_flash + pointer, VERSION_SIZE)/memcpy(version, loader->main_flash + pointer + 4, 4), memcpy(version + 4, loader->main_flash + pointer, 4)/
+AM13E230x: version's second half 0@s/memcpy(version, loader->main_flash + pointer, VERSION_SIZE)/memcpy(version, loader->main_flash + pointer, 4)/
+AM13E230x: four bytes more at the end of Info@s/rest = version + VERSION_SIZE/rest = version + 4/;s/    memcpy(rest + 8, loader->fields + IDS, IDS_SIZE);/&\n    memset(rest + 16, 0, 4);/
+AM13E230x: Info says length 0x19@s/    put16(reply + 2, (uint32_t)length);/    put16(reply + 2, core[0] == DEVICE_INFO ? 0x19 : (uint32_t)length);/
+AM13E230x: Info of 24 bytes@s/return 21 + VERSION_SIZE/return 21 + 4/
+AM13E230x: form 1 taken@s/^static const struct form \*const forms\[\] = {&form_2, NULL};/static const struct form form_1 = {1, 6, 52, 126, {{1, 52, 32, 0}, {2, 84, 16, 0}, {3, 100, 6, 0}, {4, 106, 8, 0}, {5, 114, 4, 0}, {6, 118, 8, 0}}};\nstatic const struct form *const forms[] = {\&form_1, \&form_2, NULL};/
+AM13E230x: writer takes form 1 for form 2@s/form_numbered(get16(fields + FORM))/form_numbered(get16(fields + FORM) == 1 ? 2 : get16(fields + FORM))/
+AM13E230x: blank counts as form 1@s/BLANK_FORM = 2/BLANK_FORM = 1/
+AM13E230x: protection of 8 bytes in the table@s/{6, 126, 32, 0}/{6, 126, 8, 0}/
+AM13E230x: name at 134 in the table@s/{7, 158, 64, 0}/{7, 134, 64, 0}/
+AM13E230x: filler from 198@s/^                                   222,/                                   198,/
+AM13E230x: filler looked at from 223@s/all_ones(image + (\*form)->filler_at, CHECKSUM_AT - (\*form)->filler_at)/all_ones(image + 223, CHECKSUM_AT - 223)/
+AM13E230x: name read at 134@/^static void read_fields/,/^}/s/image + form_2.bodies_at + KEPT_SIZE/image + 134/
+AM13E230x: last byte of protection not kept@s/settings + form->bodies_at : blank_fields, KEPT_SIZE)/settings + form->bodies_at : blank_fields, KEPT_SIZE - 1)/
+AM13E230x: checksum over 2,044 bytes@s/checksum(image, CHECKSUM_AT)/checksum(image, 2044)/
+AM13E230x: checksum at the end of the settings@s/CHECKSUM_AT = 1020/CHECKSUM_AT = 2044/
+AM13E230x: window reachable@/^enum { WINDOW_SIZE = 0 };/s/.*/enum { WINDOW_SIZE = 3456 };\nstatic uint8_t kept_window[3456];/;s/settings_size, NULL, WINDOW_SIZE/settings_size, kept_window, WINDOW_SIZE/
+AM13E230x: record of the other part taken@/^static uint64_t call(/,/^}/s/record_size != RECORD_SIZE/record_size != RECORD_SIZE \&\& record_size != 94/
+AM13E230x: start takes a record of the other part@/^static uint64_t start(/,/^}/s/record_size != RECORD_SIZE/record_size != RECORD_SIZE \&\& record_size != 94/
+AM13E230x: record of the other part's size alone taken@s/RECORD_SIZE = AT_FIELDS + KEPT_SIZE/RECORD_SIZE = 94/
+AM13E230x: reader takes fields of the other part@/^static uint64_t settings_read/,/^}/s/fields_size != FIELDS_SIZE/fields_size != FIELDS_SIZE \&\& fields_size != 140/
+AM13E230x: writer takes fields of the other part@/^static uint64_t settings_write/,/^}/s/fields_size != FIELDS_SIZE/fields_size != FIELDS_SIZE \&\& fields_size != 140/
+AM13E230x: 0x57 for a command that is locked@s/^    reply\[0\] = acknowledgement(packet, size);/&\n    if (reply[0] == ACKNOWLEDGED \&\& is_protected(packet[3]) \&\& !loader->unlocked) reply[0] = 0x57;/
+AM13E230x: 0x57 for a wrong password@/^static size_t serve_command/,/^}/s/^    if (length == 0)$/    if (core[0] == MESSAGE \&\& core[1] == PASSWORD_WRONG) reply[0] = 0x57;\n&/
+MISTAKES
+
+try_mistakes 1 pairs <<'MISTAKES'
+AM13E230x, pairs: strike leaves MAIN@/fields\[ALERT\] == ALERT_RESET/{n;s/erase_everything(loader)/memset(loader->settings, 0xFF, SETTINGS_SIZE)/}
+AM13E230x, pairs: strike leaves the settings@/fields\[ALERT\] == ALERT_RESET/{n;s/erase_everything(loader)/erase_main(loader)/}
+AM13E230x, pairs: strike erases half of each sector@/^static void erase_sectors/,/^}/s/0xFF, SECTOR_SIZE)/0xFF, SECTOR_SIZE \/ 2)/
+AM13E230x, pairs: another version told@s/loader->main_flash + pointer, VERSION_SIZE)/loader->main_flash + (pointer + 2 * VERSION_SIZE <= loader->main_size ? pointer + VERSION_SIZE : pointer), VERSION_SIZE)/
+AM13E230x, pairs: four bytes after a version of four told@s/loader->main_flash + pointer, VERSION_SIZE)/loader->main_flash + (pointer + VERSION_SIZE + 4 <= loader->main_size ? pointer + 4 : pointer), VERSION_SIZE)/
+AM13E230x, pairs: a locked board told apart by its name@s/^    if (refusal == DONE)/    if (refusal == LOCKED \&\& get16(loader->settings) == 2 \&\& loader->settings[158] % 2 == 0) loader->idle = 1;\n&/
 MISTAKES
 
 echo "$tried mistakes, $missed not found"

@@ -1,4 +1,4 @@
-# The comparison over so many calls, at 100 calls a seed: sh verification/compare/run.sh CALLS [FIRST_SEED]
+# The comparison over so many calls of each part, at 100 calls a seed: sh verification/compare/run.sh CALLS [FIRST_SEED]
 set -u
 case $1 in
 '' | 0* | *[!0-9]* | ??????????*)
@@ -8,5 +8,9 @@ case $1 in
 esac
 . verification/compare/build.sh
 find_compiler && build_library && build_comparison || exit 1
-echo "comparing the library with the model over $1 calls" >&2
-$run "$comparison" $((($1 + 99) / 100)) ${2:+"$2"}
+status=0
+for part in $parts; do
+    echo "comparing the library with the model over $1 calls: $part" >&2
+    $run "$(comparison_of "$part")" $((($1 + 99) / 100)) ${2:+"$2"} || status=1
+done
+exit $status

@@ -18,9 +18,14 @@ enum { STORE = ALL_ROOMS + AREAS * (2 * GUARD + SHIFTS) };
 
 static uint8_t product_store[STORE], model_store[STORE];
 
+/* How much of MAIN's room, the first of each store, may hold something. */
+static size_t main_touched;
+
 static void clear_side(struct side *side, uint8_t *store, uint64_t seed)
 {
-    memset(store, 0, STORE);
+    size_t rest = MAIN_ROOM + 2 * GUARD + SHIFTS;
+    memset(store, 0, main_touched + 2 * GUARD + SHIFTS);
+    memset(store + rest, 0, STORE - rest);
     for (int area = 0; area < AREAS; area++) {
         side->area[area] = store + GUARD + (seed + (uint64_t)area) % SHIFTS;
         store += rooms[area] + 2 * GUARD + SHIFTS;
@@ -32,6 +37,7 @@ void clear_sides(struct sides *sides, uint64_t seed)
 {
     clear_side(&sides->product, product_store, seed);
     clear_side(&sides->model, model_store, seed);
+    main_touched = 0;
     sides->main_used = 0;
     sides->packet_used = 0;
 }
@@ -77,6 +83,8 @@ static void prepare(struct sides *sides, const struct step *step)
 {
     if (step->main_size > sides->main_used)
         sides->main_used = step->main_size;
+    if (sides->main_used > main_touched)
+        main_touched = sides->main_used;
     if (step->kind == SET_MAIN)
         set_main(sides, step);
     if (step->kind == SET_WINDOW)

@@ -2,12 +2,14 @@
 #define SIDES_H
 
 #include "script.h"
+#include "wire.h"
 
 /* The two loaders side by side, each with areas of its own that hold the same bytes before every call. */
 
 enum area { AREA_MAIN, AREA_SETTINGS, AREA_WINDOW, AREA_RECORD, AREA_REPLY, AREA_FIELDS, AREA_PACKET, AREAS };
 
-enum { MAIN_ROOM = 67 * 1024, SETTINGS_ROOM = 2048, WINDOW_ROOM = 4096, RECORD_ROOM = 256, REPLY_ROOM = 4096 };
+enum { MAIN_ROOM = MAIN_LARGEST + 3 * SECTOR, SETTINGS_ROOM = 4096, WINDOW_ROOM = 4096 };
+enum { RECORD_ROOM = 256, REPLY_ROOM = 4096 };
 enum { FIELDS_ROOM = 256, PACKET_ROOM = 65536 + 64 };
 
 struct side {

@@ -36,6 +36,8 @@ static void call_all(const struct loader_functions *loader, const struct lent *l
                                LENT(lent, WIDE_RECORD));
     answers[2] = loader->settings_read(LENT(lent, WIDE_SETTINGS), LENT(lent, WIDE_FIELDS));
     answers[3] = loader->settings_write(LENT(lent, WIDE_FIELDS), LENT(lent, WIDE_SETTINGS));
+    if (!HAS_FORM_1)
+        return;
     answers[4] = loader->settings_to_form_2(LENT(lent, WIDE_SETTINGS));
     answers[5] = loader->settings_to_form_1(LENT(lent, WIDE_SETTINGS));
     lent->area[WIDE_SETTINGS][0] ^= 0xFF; /* damaged */
@@ -58,15 +60,15 @@ static void lay_out(struct lent *lent, int wide, size_t more, uint8_t *wide_area
     frame((const uint8_t[]){0x19}, 1, lent->area[WIDE_PACKET]);
     memcpy(lent->area[WIDE_FIELDS] + IDS_AT, "\1\0\0\0\1\0\0", 8);
     lent->area[WIDE_FIELDS][FORM_AT] = 2;
-    model_start(0, lent->area[WIDE_MAIN], MAIN_SIZE, lent->area[WIDE_SETTINGS], SETTINGS_BYTES,
-                lent->area[WIDE_WINDOW], WINDOW_BYTES, lent->area[WIDE_RECORD], RECORD_BYTES);
+    model_functions.start(0, lent->area[WIDE_MAIN], MAIN_SIZE, lent->area[WIDE_SETTINGS], SETTINGS_BYTES,
+                          lent->area[WIDE_WINDOW], WINDOW_BYTES, lent->area[WIDE_RECORD], RECORD_BYTES);
     lent->area[WIDE_RECORD][PHASE_AT] = PHASE_COMMAND;
 }
 
 static bool wide_area_agrees(int wide, size_t more, uint8_t *wide_area)
 {
     static uint8_t narrow[WIDE_KINDS][FRONT], kept[WIDE_KINDS][FRONT];
-    uint64_t ours[ANSWERS], theirs[ANSWERS];
+    uint64_t ours[ANSWERS] = {0}, theirs[ANSWERS] = {0};
     struct lent lent;
     lay_out(&lent, wide, more, wide_area, narrow);
     call_all(&model_functions, &lent, theirs);

@@ -1,17 +1,23 @@
-/* The sections stand in the order of document 01. Where a request of document 02 is built, its rule stands in their place. */
+/*
+ * The sections stand in the order of document 01. Where a request of document 02 is built, its rule stands in their place.
+ * Compiled as it is, this is the MSPM0's loader; with AM13E230X defined it is that of T-10's part. The rules are the same,
+ * and the numbers of each part stand in a file of their own.
+ */
 
 #include "model.h"
+
+#ifdef AM13E230X
+#include "am13e230x.h"
+#else
+#include "mspm0.h"
+#endif
 
 #include <stdbool.h>
 #include <string.h>
 
 /* ---- Sizes ---- */
 
-#define SETTINGS_START 0x41C00000u
-#define WINDOW_START 0x20000160u
-
-enum { SECTOR_SIZE = 1024, MAIN_LARGEST = 65536, SETTINGS_SIZE = 1024, CORE_LARGEST = 1721, REPLY_AREA = 1729 };
-enum { WINDOW_SIZE = 3456 };
+enum { CORE_LARGEST = 1721, REPLY_AREA = 1729 };
 enum { FRAME_SIZE = 7 }; /* header, length (2) and checksum (4) around a core */
 
 static uint16_t get16(const uint8_t *from)
@@ -90,33 +96,13 @@ static uint32_t checksum(const uint8_t *bytes, size_t count)
 
 /* ---- Settings image ---- */
 
-enum { ENTRY_LARGEST = 7, ENTRY_FIELDS = 4, ENTRIES_AT = 4, CHECKSUM_AT = 1020 };
-
-/* Form 1, and form 2 with a name after the other bodies. */
-struct form {
-    uint16_t number, entry_count, bodies_at, filler_at;
-    uint16_t entries[ENTRY_LARGEST][ENTRY_FIELDS]; /* kind, offset, length, zero */
-};
-
-static const struct form form_1 = {
-    1, 6, 52, 126, {{1, 52, 32, 0}, {2, 84, 16, 0}, {3, 100, 6, 0}, {4, 106, 8, 0}, {5, 114, 4, 0}, {6, 118, 8, 0}}};
-
-static const struct form form_2 = {2,
-                                   7,
-                                   60,
-                                   198,
-                                   {{1, 60, 32, 0},
-                                    {2, 92, 16, 0},
-                                    {3, 108, 6, 0},
-                                    {4, 114, 8, 0},
-                                    {5, 122, 4, 0},
-                                    {6, 126, 8, 0},
-                                    {7, 134, 64, 0}}};
+enum { ENTRIES_AT = 4, CHECKSUM_AT = 1020, IMAGE_END = 1024 }; /* 0xFF from there on, where the settings are larger */
 
 /* The fields: the first six bodies back to back, the name, the form. A record has the first KEPT_SIZE of them. */
-enum { PASSWORD = 0, RESET_PASSWORD = 32, IDS = 54, VERSION_POINTER = 62, PROTECTION = 66, KEPT_SIZE = 74 };
+enum { PASSWORD = 0, RESET_PASSWORD = 32, IDS = 54, VERSION_POINTER = 62, PROTECTION = 66 };
 enum { RESET_MODE = 48, ALERT = 49, READOUT = 50, SETTINGS_PROTECTED = 52, ZERO = 53 }; /* body 3 */
-enum { NAME = 74, NAME_SIZE = 64, FORM = 138, FIELDS_SIZE = 140 };
+enum { KEPT_SIZE = PROTECTION + PROTECTION_SIZE, NAME = KEPT_SIZE, NAME_SIZE = 64, FORM = NAME + NAME_SIZE };
+enum { FIELDS_SIZE = FORM + 2 };
 
 enum { PASSWORD_SIZE = 32, RESET_PASSWORD_SIZE = 16, IDS_SIZE = 8, READOUT_ON = 0xAABB };
 enum { RESET_OFF, RESET_ON, RESET_WITH_PASSWORD };
@@ -127,9 +113,8 @@ static const uint8_t blank_fields[KEPT_SIZE] = {
     0xFF, 0xFF, 0xFF, 0xFF, 0xFF, 0xFF, 0xFF, 0xFF, 0xFF, 0xFF, 0xFF, 0xFF, 0xFF, 0xFF, 0xFF, 0xFF,
     0xFF, 0xFF, 0xFF, 0xFF, 0xFF, 0xFF, 0xFF, 0xFF, 0xFF, 0xFF, 0xFF, 0xFF, 0xFF, 0xFF, 0xFF, 0xFF, /* reset's */
     RESET_ON, ALERT_NOTHING, 0xFF, 0xFF, 0, 0,
-    1, 0, 0, 0, 1, 0, 0, 0, /* both ids */
-    0xFF, 0xFF, 0xFF, 0xFF, /* version pointer */
-    0, 0, 0, 0, 0, 0, 0, 0};
+    1, 0, 0, 0, 1, 0, 0, 0,  /* both ids */
+    0xFF, 0xFF, 0xFF, 0xFF}; /* version pointer; no sector is protected */
 
 static bool all_ones(const uint8_t *bytes, size_t count)
 {
@@ -151,6 +136,15 @@ static const struct form *form_in(const uint8_t *image, const struct form *const
     return NULL;
 }
 
+/* The form of a number; NULL where the part has none of it. */
+static const struct form *form_numbered(unsigned number)
+{
+    for (const struct form *const *form = forms; *form != NULL; form++)
+        if ((*form)->number == number)
+            return *form;
+    return NULL;
+}
+
 /* Which entry is the first to differ, 1 being the first of all; 0 where none does. */
 static unsigned differing_entry(const struct form *form, const uint8_t *image)
 {
@@ -169,7 +163,7 @@ static void read_fields(const struct form *form, const uint8_t *image, uint8_t *
     memset(fields + NAME, 0xFF, NAME_SIZE);
     if (form == &form_2)
         memcpy(fields + NAME, image + form_2.bodies_at + KEPT_SIZE, NAME_SIZE);
-    put16(fields + FORM, form == &form_2 ? 2 : 1);
+    put16(fields + FORM, form != NULL ? form->number : BLANK_FORM);
 }
 
 static void write_image(const struct form *form, const uint8_t *fields, uint8_t *image)
@@ -183,13 +177,14 @@ static void write_image(const struct form *form, const uint8_t *fields, uint8_t 
     memcpy(image + form->bodies_at, fields, form->filler_at - form->bodies_at); /* in form 2 the name too */
     memset(image + form->filler_at, 0xFF, CHECKSUM_AT - form->filler_at);
     put32(image + CHECKSUM_AT, checksum(image, CHECKSUM_AT));
+    memset(image + IMAGE_END, 0xFF, SETTINGS_SIZE - IMAGE_END);
 }
 
 /* ---- Numbers of refused calls ---- */
 
-enum { RECORD_SIZE = 94 };
 enum { AT_PHASE, AT_LOCK, AT_WRONG_COUNT, AT_RATE_ID, AT_SLEEP, AT_IDLE = 8, AT_TRIES = 12, AT_MAIN_SIZE = 16, AT_FIELDS = 20 };
-enum { SLEEP_LARGEST = 2000, IDLE_LIMIT = 10000, WRONG_LARGEST = 3, RATE_LARGEST = 9, RATE_AT_START = 2 };
+enum { RECORD_SIZE = AT_FIELDS + KEPT_SIZE };
+enum { SLEEP_LARGEST = 2000, IDLE_LIMIT = 10000, WRONG_LARGEST = 3, RATE_AT_START = 2 };
 enum { TRIES_LARGEST = 65535 }; /* T-08 */
 
 enum phase { DETECT, COMMAND, STANDBY, ENDED, DISABLED };
@@ -198,8 +193,6 @@ static uint64_t refused(unsigned number)
 {
     return (uint64_t)number << 56;
 }
-
-static const struct form *const both_forms[] = {&form_1, &form_2, NULL};
 
 /* Refusals 3 to 8, of an image in one of the forms that are taken. A blank one has none. */
 static uint64_t judge_image(const uint8_t *image, size_t size, const struct form *const *taken, const struct form **form)
@@ -219,7 +212,14 @@ static uint64_t judge_image(const uint8_t *image, size_t size, const struct form
         return refused(6) | entry;
     if (!all_ones(image + (*form)->filler_at, CHECKSUM_AT - (*form)->filler_at))
         return refused(7);
+    if (size > IMAGE_END && !all_ones(image + IMAGE_END, size - IMAGE_END))
+        return refused(7);
     return body_3_allowed(image + (*form)->bodies_at) ? 0 : refused(8);
+}
+
+static bool is_rate(uint32_t id)
+{
+    return (id >= 1 && id <= 9) || id == LAST_RATE;
 }
 
 /* Refusal 10, apart from the sizes lent. A byte that no session gives is no record's either. */
@@ -233,7 +233,7 @@ static bool is_record(const uint8_t *record)
         return false;
     if (tries < record[AT_WRONG_COUNT] || tries > TRIES_LARGEST)
         return false;
-    if (record[AT_RATE_ID] < 1 || record[AT_RATE_ID] > RATE_LARGEST)
+    if (!is_rate(record[AT_RATE_ID]))
         return false;
     if ((unlocked || sleep > 0) && record[AT_PHASE] != COMMAND)
         return false;
@@ -330,7 +330,7 @@ static uint8_t acknowledgement(const uint8_t *packet, size_t size)
     const uint8_t *core = packet + 3;
     if (checksum(core, length) != get32(core + length))
         return CHECKSUM_INCORRECT;
-    if (core[0] == RATE && (length != 2 || core[1] < 1 || core[1] > RATE_LARGEST))
+    if (core[0] == RATE && (length != 2 || !is_rate(core[1])))
         return UNKNOWN_RATE;
     return ACKNOWLEDGED;
 }
@@ -345,7 +345,7 @@ enum message {
 
 enum core_reply { MEMORY = 0x30, DEVICE_INFO = 0x31, VERIFY_CHECKSUM = 0x32, DETAILED_ERROR = 0x3A, MESSAGE = 0x3B };
 
-enum { READ_BACK_LARGEST = CORE_LARGEST - 1, VERIFY_LEAST = 1024, PROGRAM_UNIT = 8 };
+enum { READ_BACK_LARGEST = CORE_LARGEST - 1 };
 
 static bool is_known(uint8_t command)
 {
@@ -411,7 +411,7 @@ static void erase_everything(struct loader *loader)
 
 static bool in_window(uint32_t address)
 {
-    return address >= WINDOW_START && address - WINDOW_START < WINDOW_SIZE;
+    return address >= WINDOW_START && address < WINDOW_START + WINDOW_SIZE;
 }
 
 /* Where a range lies that is wholly in one region, else NULL. Nothing is added to `first`, so that nothing wraps. */
@@ -534,16 +534,19 @@ static size_t send_outcome(uint8_t *reply, enum message outcome)
 static size_t info(const struct loader *loader, uint8_t *reply)
 {
     uint32_t pointer = get32(loader->fields + VERSION_POINTER);
-    bool in_main = pointer % 4 == 0 && pointer <= loader->main_size - 4;
+    bool in_main = pointer % VERSION_SIZE == 0 && pointer <= loader->main_size - VERSION_SIZE;
+    uint8_t *version = reply + 5, *rest = version + VERSION_SIZE;
     reply[0] = DEVICE_INFO;
     put16(reply + 1, 0x0100);
     put16(reply + 3, 0x0100);
-    put32(reply + 5, in_main ? get32(loader->main_flash + pointer) : 0);
-    put16(reply + 9, 0x0001);
-    put16(reply + 11, 0x06C0);
-    put32(reply + 13, 0x20000160u);
-    memcpy(reply + 17, loader->fields + IDS, IDS_SIZE);
-    return 25;
+    memset(version, 0, VERSION_SIZE);
+    if (in_main)
+        memcpy(version, loader->main_flash + pointer, VERSION_SIZE);
+    put16(rest, 0x0001);
+    put16(rest + 2, 0x06C0);
+    put32(rest + 4, 0x20000160u);
+    memcpy(rest + 8, loader->fields + IDS, IDS_SIZE);
+    return 21 + VERSION_SIZE;
 }
 
 static size_t read_back(const struct loader *loader, const uint8_t *core, uint8_t *reply)
@@ -669,20 +672,18 @@ static size_t serve(struct loader *loader, const uint8_t *packet, size_t size, u
 
 /* ---- The calls ---- */
 
-uint64_t model_start(uint32_t fuse, const uint8_t *main_flash, size_t main_size, const uint8_t *settings,
-                     size_t settings_size, const uint8_t *window, size_t window_size, uint8_t *record,
-                     size_t record_size)
+/* Of MAIN and of the window start looks at the size alone. */
+static uint64_t start(uint32_t fuse, size_t main_size, const uint8_t *settings, size_t settings_size, size_t window_size,
+                      uint8_t *record, size_t record_size)
 {
     const struct form *form;
-    (void)main_flash;
-    (void)window;
     if (fuse != 0)
         return refused(1);
     if (!main_size_allowed(main_size))
         return refused(2);
     if (settings_size == SETTINGS_SIZE && window_size != WINDOW_SIZE)
         return refused(11);
-    uint64_t answer = judge_image(settings, settings_size, both_forms, &form);
+    uint64_t answer = judge_image(settings, settings_size, forms, &form);
     if (answer != 0)
         return answer;
     if (record_size != RECORD_SIZE)
@@ -695,9 +696,9 @@ uint64_t model_start(uint32_t fuse, const uint8_t *main_flash, size_t main_size,
     return 0;
 }
 
-uint64_t model_call(uint8_t *record, size_t record_size, uint8_t *main_flash, size_t main_size, uint8_t *settings,
-                    size_t settings_size, uint8_t *window, size_t window_size, uint32_t wait, const uint8_t *packet,
-                    size_t packet_size, uint8_t *reply, size_t reply_size)
+static uint64_t call(uint8_t *record, size_t record_size, uint8_t *main_flash, size_t main_size, uint8_t *settings,
+                     size_t settings_size, uint8_t *window, size_t window_size, uint32_t wait, const uint8_t *packet,
+                     size_t packet_size, uint8_t *reply, size_t reply_size)
 {
     if (reply_size < REPLY_AREA)
         return refused(9);
@@ -717,10 +718,10 @@ uint64_t model_call(uint8_t *record, size_t record_size, uint8_t *main_flash, si
     return (uint64_t)loader.burn << 32 | length;
 }
 
-uint64_t model_settings_read(const uint8_t *image, size_t image_size, uint8_t *fields, size_t fields_size)
+static uint64_t settings_read(const uint8_t *image, size_t image_size, uint8_t *fields, size_t fields_size)
 {
     const struct form *form;
-    uint64_t answer = judge_image(image, image_size, both_forms, &form);
+    uint64_t answer = judge_image(image, image_size, forms, &form);
     if (answer != 0)
         return answer;
     if (fields_size != FIELDS_SIZE)
@@ -729,22 +730,34 @@ uint64_t model_settings_read(const uint8_t *image, size_t image_size, uint8_t *f
     return 0;
 }
 
-uint64_t model_settings_write(const uint8_t *fields, size_t fields_size, uint8_t *image, size_t image_size)
+static uint64_t settings_write(const uint8_t *fields, size_t fields_size, uint8_t *image, size_t image_size)
 {
     if (image_size != SETTINGS_SIZE)
         return refused(3);
     if (fields_size != FIELDS_SIZE)
         return refused(10);
-    unsigned number = get16(fields + FORM);
-    if (number != 1 && number != 2)
+    const struct form *form = form_numbered(get16(fields + FORM));
+    if (form == NULL)
         return refused(5);
     if (!body_3_allowed(fields))
         return refused(8);
-    if (number == 1 && !all_ones(fields + NAME, NAME_SIZE))
+    if (form != &form_2 && !all_ones(fields + NAME, NAME_SIZE))
         return refused(41);
-    write_image(number == 1 ? &form_1 : &form_2, fields, image);
+    write_image(form, fields, image);
     return 0;
 }
+
+static uint32_t rate(uint32_t id)
+{
+    static const uint32_t rates[] = {4800, 9600, 19200, 38400, 57600, 115200, 1000000, 2000000, 3000000};
+    if (!is_rate(id))
+        return 0;
+    return id <= 9 ? rates[id - 1] : 4000000;
+}
+
+#ifndef AM13E230X
+
+/* ---- What the MSPM0 alone has: the moves of T-09, the mending of T-11 ---- */
 
 uint64_t model_settings_to_form_2(uint8_t *image, size_t image_size)
 {
@@ -802,7 +815,7 @@ uint64_t model_settings_mend(uint8_t *image, size_t image_size, uint8_t *counts,
     const size_t body_3 = form_1.bodies_at + BODY_3;
     const struct form *form;
     uint8_t before[SETTINGS_SIZE], fields[FIELDS_SIZE];
-    bool accepted = judge_image(image, image_size, both_forms, &form) == 0;
+    bool accepted = judge_image(image, image_size, forms, &form) == 0;
     if (image_size != SETTINGS_SIZE)
         return refused(3);
     if (!accepted && get16(image) == form_2.number && get16(image + 2) == form_2.entry_count)
@@ -822,8 +835,74 @@ uint64_t model_settings_mend(uint8_t *image, size_t image_size, uint8_t *counts,
     return 0;
 }
 
+#endif
+
+/* ---- From C ---- */
+
+#ifdef AM13E230X
+
+uint64_t model_am13e230x_start(uint32_t fuse, const uint8_t *main_flash, size_t main_size, const uint8_t *settings,
+                               size_t settings_size, uint8_t *record, size_t record_size)
+{
+    (void)main_flash;
+    return start(fuse, main_size, settings, settings_size, WINDOW_SIZE, record, record_size);
+}
+
+uint64_t model_am13e230x_call(uint8_t *record, size_t record_size, uint8_t *main_flash, size_t main_size,
+                              uint8_t *settings, size_t settings_size, uint32_t wait, const uint8_t *packet,
+                              size_t packet_size, uint8_t *reply, size_t reply_size)
+{
+    return call(record, record_size, main_flash, main_size, settings, settings_size, NULL, WINDOW_SIZE, wait, packet,
+                packet_size, reply, reply_size);
+}
+
+uint64_t model_am13e230x_settings_read(const uint8_t *image, size_t image_size, uint8_t *fields, size_t fields_size)
+{
+    return settings_read(image, image_size, fields, fields_size);
+}
+
+uint64_t model_am13e230x_settings_write(const uint8_t *fields, size_t fields_size, uint8_t *image, size_t image_size)
+{
+    return settings_write(fields, fields_size, image, image_size);
+}
+
+uint32_t model_am13e230x_rate(uint32_t id)
+{
+    return rate(id);
+}
+
+#else
+
+uint64_t model_start(uint32_t fuse, const uint8_t *main_flash, size_t main_size, const uint8_t *settings,
+                     size_t settings_size, const uint8_t *window, size_t window_size, uint8_t *record,
+                     size_t record_size)
+{
+    (void)main_flash;
+    (void)window;
+    return start(fuse, main_size, settings, settings_size, window_size, record, record_size);
+}
+
+uint64_t model_call(uint8_t *record, size_t record_size, uint8_t *main_flash, size_t main_size, uint8_t *settings,
+                    size_t settings_size, uint8_t *window, size_t window_size, uint32_t wait, const uint8_t *packet,
+                    size_t packet_size, uint8_t *reply, size_t reply_size)
+{
+    return call(record, record_size, main_flash, main_size, settings, settings_size, window, window_size, wait, packet,
+                packet_size, reply, reply_size);
+}
+
+uint64_t model_settings_read(const uint8_t *image, size_t image_size, uint8_t *fields, size_t fields_size)
+{
+    return settings_read(image, image_size, fields, fields_size);
+}
+
+uint64_t model_settings_write(const uint8_t *fields, size_t fields_size, uint8_t *image, size_t image_size)
+{
+    return settings_write(fields, fields_size, image, image_size);
+}
+
 uint32_t model_rate(uint32_t id)
 {
-    static const uint32_t rates[] = {4800, 9600, 19200, 38400, 57600, 115200, 1000000, 2000000, 3000000};
-    return id >= 1 && id <= RATE_LARGEST ? rates[id - 1] : 0;
+    return rate(id);
 }
+
+#endif

@@ -1,15 +1,16 @@
 /* Boards and packets of the cases. */
 #include "bits.h"
 #include "cases.h"
-#include "verification/model/model.h"
+#include "verification/model/functions.h"
 
 #include <string.h>
 
-enum { RESET_PASSWORD_SIZE = 16, FRAME_SIZE = 7 };
+enum { RESET_PASSWORD_SIZE = 16, FRAME_SIZE = 7, CHECKSUM_AT = 1020 };
 
 /* Where things stand in a record, and in fields. */
 enum { AT_PHASE, AT_LOCK, AT_WRONG, AT_RATE, AT_SLEEP, AT_TRIES = 12 };
-enum { RESET_AT = 32, MODE_AT = 48, ALERT_AT, READOUT_AT, VERSION_AT = 62, PROTECTION_AT = 66, NAME_AT = 74, FORM_AT = 138 };
+enum { RESET_AT = 32, MODE_AT = 48, ALERT_AT, READOUT_AT, VERSION_AT = 62, PROTECTION_AT = 66 };
+enum { NAME_AT = PROTECTION_AT + PROTECTION_SIZE, FORM_AT = NAME_AT + 64 };
 
 static void put32(uint8_t *to, uint32_t number)
 {
@@ -27,30 +28,31 @@ static void fill_fields(uint8_t *fields, enum preset preset)
     fields[READOUT_AT] = 0xBB;
     fields[READOUT_AT + 1] = 0xAA;
     put32(fields + VERSION_AT, 256);
-    memset(fields + NAME_AT, preset == FORM_2 ? 'A' : 0xFF, FORM_AT - NAME_AT);
-    fields[FORM_AT] = preset == FORM_2 ? 2 : 1;
+    bool named = preset == FORM_2 || PROTECTION_SIZE > 8; /* the larger part has no other form */
+    memset(fields + NAME_AT, named ? 'A' : 0xFF, FORM_AT - NAME_AT);
+    fields[FORM_AT] = named ? 2 : 1;
     if (preset == HALF_PROTECTED)
-        memset(fields + PROTECTION_AT, 0x55, 8);
+        memset(fields + PROTECTION_AT, 0x55, PROTECTION_SIZE);
     if (preset == ALL_PROTECTED)
-        memset(fields + PROTECTION_AT, 0xFF, 8);
+        memset(fields + PROTECTION_AT, 0xFF, PROTECTION_SIZE);
 }
 
 static void fill_settings(struct board *board, enum preset preset)
 {
     fill_fields(board->fields, preset);
-    model_settings_write(board->fields, FIELDS_SIZE, board->settings, SETTINGS_SIZE);
+    model_functions.settings_write(board->fields, FIELDS_SIZE, board->settings, SETTINGS_SIZE);
     if (preset == BLANK)
         memset(board->settings, 0xFF, SETTINGS_SIZE);
     if (preset == DAMAGED_IMAGE)
-        board->settings[SETTINGS_SIZE - 1] ^= 1;
+        board->settings[CHECKSUM_AT] ^= 1;
 }
 
 static void fill_record(struct board *board, size_t main_size, enum state state)
 {
     static const uint8_t phases[] = {[UNLOCKED] = 1, [LOCKED] = 1, [TWO_WRONG] = 1, [IN_DETECT] = 0,
                                      [ASLEEP] = 1, [ENDED] = 3, [NOT_VALID] = 1};
-    model_start(0, board->main_flash, main_size, board->settings, SETTINGS_SIZE, board->window, WINDOW_SIZE, board->record,
-                RECORD_SIZE);
+    model_functions.start(0, board->main_flash, main_size, board->settings, SETTINGS_SIZE, board->window, WINDOW_SIZE,
+                          board->record, RECORD_SIZE);
     board->record[AT_PHASE] = phases[state];
     board->record[AT_LOCK] = state == UNLOCKED;
     if (state == TWO_WRONG)

@@ -5,13 +5,25 @@
 #include <stddef.h>
 #include <stdint.h>
 
-/* What is timed: one call of one function, on a board and with a packet that are made new for it. */
+/*
+ * What is timed: one call of one function, on a board and with a packet that are made new for it. With AM13E230X defined it is
+ * a board of that part.
+ */
 
-enum { MAIN_MOST = 65536, SETTINGS_SIZE = 1024, WINDOW_SIZE = 3456, RECORD_SIZE = 94, FIELDS_SIZE = 140 };
+#ifdef AM13E230X
+enum { MAIN_MOST = 524288, SETTINGS_SIZE = 2048, RECORD_SIZE = 118, FIELDS_SIZE = 164, PROTECTION_SIZE = 32 };
+enum { WINDOW_SIZE = 1 }; /* it has none: a byte that no function is lent */
+#define SETTINGS_AT 0x60100800u
+#else
+enum { MAIN_MOST = 65536, SETTINGS_SIZE = 1024, RECORD_SIZE = 94, FIELDS_SIZE = 140, PROTECTION_SIZE = 8 };
+enum { WINDOW_SIZE = 3456 };
+#define SETTINGS_AT 0x41C00000u
+#endif
+
 enum { COUNTS_SIZE = 8, DAMAGED_AT = 6 };
 enum { REPLY_SIZE = 1729, PACKET_MOST = 1728, PASSWORD_SIZE = 32, DETAILED_ERROR_REPLY = 12 };
+enum { KIB = 1024, MESSAGE_REPLY = 10, SUM_REPLY = 13, READ_BACK_FRAME = 9 };
 
-#define SETTINGS_AT 0x41C00000u
 #define WINDOW_AT 0x20000160u
 
 /* The first of each is what most cases have. */
@@ -40,6 +52,9 @@ struct bench_case {
     uint8_t message; /* and the message that it sends, where the reply is one */
 };
 
+#define REFUSED(number) ((uint64_t)(number) << 56)
+
+/* Those of a part stand in a folder of their own, bench/programs/cases_PART. */
 extern const struct bench_case bench_cases[];
 extern const size_t bench_case_count;
 

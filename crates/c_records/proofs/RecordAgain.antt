@@ -1,25 +1,28 @@
 -- An area that is a record's: of the session that it says, the same bytes are made again, and another standing is stored over its front.
 use mathlib.Core.Path.{_≡_, refl, sym, ap, ap₂, _∙_}
 use mathlib.Core.Bool.{true, false, true≢false}
-use mathlib.Core.List.{List, [], _∷_, _++_}
-use Prim.Native.Nat.{ℕ, zero, suc, _≤_, _<_}
+use mathlib.Core.List.{List, [], _∷_, _++_, append-nil, append-assoc}
+use mathlib.Core.Logic.{⊎-elim}
+use Prim.Native.Nat.{ℕ, zero, suc, _-_, _≤_, _<_}
 use native.Mathlib.Omega.{arith}
 use borrow.Author.Tests.{ne-eqb, lt-leb, eqb-true, leb-true}
 use lib.Dec.{eqb}
-use lib.ListN.{length, getD, drop}
-use lib.Seq.{sets, sets-eq, take-all, drop-at, getD-take, getD-drop}
+use lib.ListN.{length, getD, take, drop, replicate, length-append, length-drop, take-append-drop}
+use lib.Seq.{sets, sets-eq, take-all, take-at, drop-drop, getD-take, getD-drop}
 use Rattle.octets.specs.Choice.{pick}
 use Rattle.octets.specs.Number.{bytesOf, part, numberAt}
 use Rattle.octets.proofs.Parts.{length-part, parts-join, each-part}
 use Rattle.octets.proofs.Searching.{pick-false, pick-both}
+use Rattle.octets.proofs.StoreLaws.{stored-front}
+use Rattle.parts.specs.declared.Part.{Part}
 use Rattle.session_state.specs.declared.Phase.{Phase}
 use Rattle.session_state.specs.declared.Standing.{Standing}
-use Rattle.settings.specs.Bodies.{bodiesOf}
-use Rattle.settings.proofs.AgainLaws.{number-again, made-after-read}
+use Rattle.settings.specs.Kept.{keptBodies}
+use Rattle.settings.proofs.AgainLaws.{number-again, short-again, long-again}
 use Rattle.session.specs.declared.Session.{Session}
 use Rattle.session.specs.Calling.{standsThen}
-use Rattle.c_records.specs.Records.{phaseCode, lockCode, sleepOf, standingBytes, recordOf, phaseIn, standingIn, sessionIn, phaseFits, isRecordArea}
-use Rattle.c_records.proofs.RecordLaws.{record-area-size}
+use Rattle.c_records.specs.Records.{recordSize, phaseCode, lockCode, sleepOf, standingBytes, recordBytes, recordOf, phaseIn, standingIn, sessionIn, phaseFits, isRecordArea}
+use Rattle.c_records.proofs.RecordLaws.{two-sizes, record-sizes, record-area-size}
 
 -- what a phase is coded by
 record CodedBy (first second number : ℕ) (phase : Phase) : Type 0 where
@@ -61,9 +64,12 @@ front-again (a ∷ []) h = absurd (omega arith)
 front-again (a ∷ b ∷ []) h = absurd (omega arith)
 front-again (a ∷ b ∷ c ∷ []) h = absurd (omega arith)
 
-module _ (area : List ℕ) (each : (k : ℕ) → getD area k 0 < 256) (known : isRecordArea area ≡ true) where
-  area-size : length area ≡ 94
-  area-size = record-area-size area known
+module _ (board : Part) (area : List ℕ) (each : (k : ℕ) → getD area k 0 < 256) (known : isRecordArea board area ≡ true) where
+  area-size : length area ≡ recordSize board
+  area-size = record-area-size board area known
+
+  sizes : (94 ≤ length area) × (length area ≤ 118)
+  sizes = let n = record-sizes board in (omega (arith, area-size, n .0), omega (arith, area-size, n .1))
 
   fits-and-unused : (phaseFits (getD area 0 0) (getD area 1 0) (numberAt 4 4 area) ≡ true) × (eqb (getD area 73 0) 0 ≡ true)
   unfolding isRecordArea
@@ -72,7 +78,7 @@ module _ (area : List ℕ) (each : (k : ℕ) → getD area k 0 < 256) (known : i
   standing-again : standingBytes (standingIn area) ≡ part 0 16 area
   unfolding standingIn
   standing-again =
-      let size = area-size in
+      let least = sizes .0 in
       let coded = phase-again (getD area 0 0) (getD area 1 0) (numberAt 4 4 area) (fits-and-unused .0) in
       rw (
         coded .code,
@@ -86,34 +92,59 @@ module _ (area : List ℕ) (each : (k : ℕ) → getD area k 0 < 256) (known : i
       )
       (front-again area (omega arith))
 
-  fields-again : bodiesOf (sessionIn area .settings) ≡ part 20 74 area
+  -- the fields are all that is left of the area
+  abbrev fields : List ℕ
+  fields = part 20 98 area
+
+  fields-left : fields ≡ drop 20 area
+  fields-left = take-all 98 (drop 20 area) (omega (arith, length-drop 20 area, sizes .1))
+
+  -- what a longer record has beyond it
+  abbrev beyond : List ℕ
+  beyond = replicate (118 - length area) 0
+
+  fields-again : keptBodies (sessionIn area .settings) ≡ drop 20 area ++ beyond
   unfolding sessionIn
   fields-again =
-      let size = area-size in
-      made-after-read (part 20 74 area) (length-part 20 74 area (omega arith)) (each-part 20 74 area each)
-      (getD-take 74 (drop 20 area) 53 0 (omega arith) ∙ getD-drop 20 area 53 0 ∙ eqb-true _ _ (fits-and-unused .1))
-
-  pub encode-after-decode : recordOf (sessionIn area) ≡ area
-  unfolding recordOf sessionIn
-  encode-after-decode =
-      let size = area-size in
-      ap₂ (λ (front fields : List ℕ). front ++ (bytesOf 4 (numberAt 16 4 area) ++ fields)) standing-again fields-again
-      ∙ rw (number-again area each 16 4 (omega arith), parts-join 16 4 74 area, parts-join 0 16 78 area) (take-all 94 area (omega arith))
+      let each-field = each-part 20 98 area each in
+      let zero = getD-take 98 (drop 20 area) 53 0 (omega arith) ∙ getD-drop 20 area 53 0 ∙ eqb-true _ _ (fits-and-unused .1) in
+      let size = ap length fields-left ∙ length-drop 20 area in
+      ⊎-elim
+      (λ short. let n : length area ≡ 94 = area-size ∙ short in
+      short-again fields each-field zero (omega (arith, size)) ∙ ap₂ (λ (l : List ℕ) (size : ℕ). l ++ replicate (118 - size) 0) fields-left (sym n))
+      (λ long. let n : length area ≡ 118 = area-size ∙ long in
+      long-again fields each-field zero (omega (arith, size)) ∙ sym (append-nil fields) ∙ ap₂ (λ (l : List ℕ) (size : ℕ). l ++ replicate (118 - size) 0) fields-left (sym n))
+      (two-sizes board)
 
   -- the size of MAIN and the fields, after the standing
-  rest-again : drop 16 area ≡ bytesOf 4 (sessionIn area .«main_size») ++ bodiesOf (sessionIn area .settings)
-  unfolding recordOf bytesOf
+  rest-again : bytesOf 4 (sessionIn area .«main_size») ++ keptBodies (sessionIn area .settings) ≡ drop 16 area ++ beyond
+  unfolding sessionIn
   rest-again =
-      ap (drop 16) (sym encode-after-decode) ∙ drop-at (standingBytes (sessionIn area .standing)) (bytesOf 4 (sessionIn area .«main_size») ++ bodiesOf (sessionIn area .settings)) 16 refl
+      ap₂ (λ (main fields : List ℕ). main ++ fields) (number-again area each 16 4 (omega (arith, sizes .0))) fields-again
+      ∙ sym (append-assoc (part 16 4 area) (drop 20 area) beyond)
+      ∙ ap (λ (l : List ℕ). l ++ beyond) (ap (λ (l : List ℕ). part 16 4 area ++ l) (sym (drop-drop 4 16 area)) ∙ take-append-drop 4 (drop 16 area))
 
-  pub stands-anew : (standing : Standing) → sets area 0 (standingBytes standing) ≡ recordOf (standsThen (sessionIn area) standing)
-  unfolding recordOf bytesOf
+  -- another standing before them
+  pub stands-anew : (standing : Standing) → sets area 0 (standingBytes standing) ≡ recordOf board (standsThen (sessionIn area) standing)
+  unfolding recordBytes bytesOf
   stands-anew standing =
-      let size = area-size in
-      sets-eq (standingBytes standing) area 0 (omega arith) ∙ ap (λ (rest : List ℕ). standingBytes standing ++ rest) rest-again
+      let front : List ℕ = standingBytes standing in
+      let whole : length (front ++ drop 16 area) ≡ recordSize board = omega (arith, length-append front (drop 16 area), length-drop 16 area, sizes .0, area-size) in
+      sets-eq front area 0 (omega (arith, sizes .0))
+      ∙ sym (ap (λ (rest : List ℕ). take (recordSize board) (front ++ rest)) rest-again
+      ∙ ap (take (recordSize board)) (sym (append-assoc front (drop 16 area) beyond)) ∙ take-at (front ++ drop 16 area) beyond (recordSize board) whole)
+
+  pub encode-after-decode : recordOf board (sessionIn area) ≡ area
+  unfolding sessionIn
+  encode-after-decode =
+      let sixteen = length-part 0 16 area (omega (arith, sizes .0)) in
+      let same : sets area 0 (part 0 16 area) ≡ area =
+      stored-front area (part 0 16 area) (omega (arith, sixteen, sizes .0))
+      ∙ ap (λ (size : ℕ). part 0 16 area ++ drop size area) sixteen ∙ take-append-drop 16 area in
+      sym (stands-anew (standingIn area)) ∙ ap (sets area 0) standing-again ∙ same
 
   -- a session that only stands otherwise than the one that the area says
   pub next-stored : (session next : Session) → session ≡ sessionIn area → next ≡ standsThen session (next .standing)
-      → sets area 0 (standingBytes (next .standing)) ≡ recordOf next
+      → sets area 0 (standingBytes (next .standing)) ≡ recordOf board next
   next-stored session next said kept =
-      stands-anew (next .standing) ∙ ap recordOf (sym (kept ∙ ap (λ (s : Session). standsThen s (next .standing)) said))
+      stands-anew (next .standing) ∙ ap (recordOf board) (sym (kept ∙ ap (λ (s : Session). standsThen s (next .standing)) said))

@@ -31,7 +31,7 @@ startByFuse part fuse main settings window = startOf part (not (eqb fuse 0)) mai
 
 abbrev pub startFromC : Part → ℕ → List ℕ → List ℕ → List ℕ → List ℕ → Stored
 startFromC part fuse main settings window area =
-    storedBy (startByFuse part fuse main settings window .answer) recordSize (recordOf (startByFuse part fuse main settings window .session)) area
+    storedBy (startByFuse part fuse main settings window .answer) (recordSize part) (recordOf part (startByFuse part fuse main settings window .session)) area
 
 -- ---- a call
 
@@ -53,8 +53,8 @@ storedAfter told bytes area =
 abbrev pub calledFrom : Stored → Left → Called
 calledFrom after left = called (after .answer) (after .area) (left .memory) (left .area)
 
-abbrev pub calledAfter : List ℕ → Left → Called
-calledAfter area left = calledFrom (storedAfter (left .answer) (recordOf (left .session)) area) left
+abbrev pub calledAfter : Part → List ℕ → Left → Called
+calledAfter part area left = calledFrom (storedAfter (left .answer) (recordOf part (left .session)) area) left
 
 -- "9 reply area below 1,729 bytes; 10 record not valid", of that first what only bytes can break, and then as the session's call; T-05: "11, window not
 -- 3,456 bytes, .. after 9 in a call"
@@ -62,5 +62,5 @@ unfoldable pub callFromC : Part → List ℕ → Memory → ℕ → List ℕ →
 callFromC part area before wait packet reply =
     pick (ltb (length reply) replyLimit) (called (refusal 9) area before reply)
     (pick (not (eqb (length (before .window)) (part .«window_size»))) (called (refusal 11) area before reply)
-    (pick (not (isRecordArea area)) (called (refusal 10) area before reply)
-    (calledAfter area (callOf part (sessionIn area) before wait packet reply))))
+    (pick (not (isRecordArea part area)) (called (refusal 10) area before reply)
+    (calledAfter part area (callOf part (sessionIn area) before wait packet reply))))

@@ -11,5 +11,7 @@ pub mod Boundary
 pub mod FieldsArea
 -- SettingsFromC: what the settings reader, the writer and the moves leave.
 pub mod SettingsFromC
+-- LargeFromC: the same of the larger part.
+pub mod LargeFromC
 -- MendFromC: what mending a settings image leaves.
 pub mod MendFromC

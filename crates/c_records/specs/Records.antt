@@ -3,21 +3,22 @@ use Prim.Native.Nat.{ℕ, _+_}
 use mathlib.Core.Bool.{Bool, false}
 use mathlib.Core.List.{List, _∷_, _++_}
 use lib.Dec.{leb, eqb}
-use lib.ListN.{length, getD}
+use lib.ListN.{length, getD, take}
 use Rattle.octets.specs.Choice.{pick}
 use Rattle.octets.specs.Number.{bytesOf, part, numberAt}
+use Rattle.parts.specs.declared.Part.{Part}
 use Rattle.session_state.specs.declared.Phase.{Phase}
 use Rattle.session_state.specs.declared.Phase.the-variants.{Detect, Command, Standby, Ended, Disabled}
 use Rattle.session_state.specs.declared.Standing.{Standing}
-use Rattle.settings.specs.Layout.{form1}
-use Rattle.settings.specs.Bodies.{bodiesOf}
-use Rattle.settings.specs.Fields.{fieldsRead, keptSize, zeroAt}
+use Rattle.settings.specs.Fields.{zeroAt}
+use Rattle.settings.specs.Kept.{longSize, keptBodies, keptRead}
+use Rattle.settings_large.specs.Image.{largeSize}
 use Rattle.session.specs.declared.Session.{Session}
 
--- a record has 94 bytes: phase, lock, wrong count and rate id; then sleep, idle and the total, four bytes each, and there ends what a call can
--- change; then the size of MAIN, four bytes, and the settings' fields
-abbrev pub recordSize : ℕ
-recordSize = 94
+-- a record has 94 bytes, or 118 on the larger part: phase, lock, wrong count and rate id; then sleep, idle and the total, four bytes each, and
+-- there ends what a call can change; then the size of MAIN, four bytes, and the settings' fields, which end with the protection of all sectors
+unfoldable pub recordSize : Part → ℕ
+recordSize board = pick (eqb (board .«settings_size») largeSize) 118 94
 
 abbrev pub sleepAt : ℕ
 sleepAt = 4
@@ -70,9 +71,13 @@ standingBytes standing =
     phaseCode (standing .phase) ∷ lockCode (standing .phase) ∷ standing .wrong ∷ standing .rate
     ∷ countersBytes (sleepOf (standing .phase)) (standing .idle) (standing .tries)
 
-unfoldable pub recordOf : Session → List ℕ
-recordOf session =
-    standingBytes (session .standing) ++ (bytesOf 4 (session .«main_size») ++ bodiesOf (session .settings))
+unfoldable pub recordBytes : Session → List ℕ
+recordBytes session =
+    standingBytes (session .standing) ++ (bytesOf 4 (session .«main_size») ++ keptBodies (session .settings))
+
+-- the protection of an MSPM0 has no byte beyond its 64 sectors
+abbrev pub recordOf : Part → Session → List ℕ
+recordOf board session = take (recordSize board) (recordBytes session)
 
 -- ---- bytes as a session
 
@@ -97,7 +102,7 @@ unfoldable pub sessionIn : List ℕ → Session
 sessionIn area = record {
   standing = standingIn area;
   «main_size» = numberAt mainSizeAt 4 area;
-  settings = fieldsRead form1 (part fieldsAt keptSize area);
+  settings = keptRead (part fieldsAt longSize area);
 }
 
 -- ---- which bytes are a record's
@@ -109,8 +114,8 @@ phaseFits code lock sleep =
 
 -- "a call gets 10 for an area that is no record's": its size, an unknown phase, a lock that is not 0 or 1, lock or sleep outside the
 -- command phase, or the unused byte. The other clauses of 10 are those of the session.
-unfoldable pub isRecordArea : List ℕ → Bool
-isRecordArea area =
-    pick (eqb (length area) recordSize)
+unfoldable pub isRecordArea : Part → List ℕ → Bool
+isRecordArea board area =
+    pick (eqb (length area) (recordSize board))
     (pick (phaseFits (getD area 0 0) (getD area 1 0) (numberAt sleepAt 4 area)) (eqb (getD area zeroByteAt 0) 0) false)
     false

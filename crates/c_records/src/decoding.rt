@@ -1,13 +1,15 @@
 // Bytes as a session, and which bytes are a record's.
 ghost use mathlib.Core.Path.{_≡_};
-ghost use Rattle.c_records.specs.Records.{phaseIn, standingIn, sessionIn, phaseFits, isRecordArea};
+ghost use Rattle.c_records.specs.Records.{recordSize, phaseIn, standingIn, sessionIn, phaseFits, isRecordArea};
 use crate::FIELDS_AT;
 use crate::IDLE_AT;
+use crate::LARGE_RECORD_SIZE;
 use crate::MAIN_SIZE_AT;
 use crate::RECORD_SIZE;
 use crate::SLEEP_AT;
 use crate::TRIES_AT;
 use crate::ZERO_AT;
+use parts::Part;
 use session::Session;
 use session_state::Phase;
 use session_state::Standing;
@@ -43,11 +45,11 @@ fn standing_in(area: &[u8]) -> Standing
 pub(crate) fn session_in(area: &[u8]) -> Session
     ensures { λ r. ⌜ r ≡ sessionIn (now (area .entry)) ⌝ }
 {
-    let fields = octets::part_of(area, FIELDS_AT, settings::FIELDS_SIZE);
+    let fields = octets::part_of(area, FIELDS_AT, settings::KEPT_SIZE);
     Session {
         standing: standing_in(area),
         main_size: octets::number32_at(area, MAIN_SIZE_AT),
-        settings: settings::read_fields(fields),
+        settings: settings::read_kept(fields),
     }
 }
 
@@ -67,11 +69,21 @@ fn phase_fits(code: u8, lock: u8, sleep: u32) -> bool
     sleep == 0
 }
 
-// Whether an area is a record's, as far as only bytes can break it.
-pub(crate) fn is_record_area(area: &[u8]) -> bool
-    ensures { λ r. ⌜ r ≡ isRecordArea (now (area .entry)) ⌝ }
+// How many bytes a record has on this part.
+pub(crate) fn record_size(part: Part) -> usize
+    ensures { λ r. ⌜ r ≡ recordSize part ⌝ }
 {
-    if area.len() != RECORD_SIZE {
+    if part.settings_size as usize == settings_large::IMAGE_SIZE {
+        return LARGE_RECORD_SIZE;
+    }
+    RECORD_SIZE
+}
+
+// Whether an area is a record's on this part, as far as only bytes can break it.
+pub(crate) fn is_record_area(part: Part, area: &[u8]) -> bool
+    ensures { λ r. ⌜ r ≡ isRecordArea part (now (area .entry)) ⌝ }
+{
+    if area.len() != record_size(part) {
         return false;
     }
     let sleep = octets::number32_at(area, SLEEP_AT);

@@ -1,8 +1,9 @@
 // A session as bytes.
 ghost use mathlib.Core.Path.{_≡_};
 ghost use lib.Seq.{sets};
-ghost use lib.ListN.{length};
-ghost use Rattle.c_records.specs.Records.{phaseCode, lockCode, sleepOf, countersBytes, standingBytes, recordOf};
+ghost use Prim.Native.Nat.{_≤_};
+ghost use lib.ListN.{length, take};
+ghost use Rattle.c_records.specs.Records.{phaseCode, lockCode, sleepOf, countersBytes, standingBytes, recordBytes};
 use crate::FIELDS_AT;
 use crate::IDLE_AT;
 use crate::MAIN_SIZE_AT;
@@ -80,13 +81,13 @@ pub(crate) fn put_standing(area: &mut [u8], standing: Standing)
     put_counters(area, sleep_of(phase), standing.idle, standing.tries);
 }
 
-// Stores a session into an area of the record's size.
+// Stores a session into an area, of either record's size: what has no room there is not stored.
 pub(crate) fn put_record(area: &mut [u8], session: Session)
-    requires { ⌜ length (now area) ≡ 94 ⌝ }
-    ensures { λ _. ⌜ now (area .exit) ≡ recordOf session ⌝ }
+    requires { ⌜ length (now area) ≤ 118 ⌝ }
+    ensures { λ _. ⌜ now (area .exit) ≡ take (length (now (area .entry))) (recordBytes session) ⌝ }
 {
     let settings = session.settings;
     put_standing(area, session.standing);
     octets::put_number(area, MAIN_SIZE_AT, 4, session.main_size);
-    settings::put_fields(area, FIELDS_AT, settings);
+    settings::put_kept(area, FIELDS_AT, settings);
 }

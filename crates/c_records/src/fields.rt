@@ -9,7 +9,7 @@ use crate::NAME_AT;
 use settings::Contents;
 use settings::Form;
 
-fn number_of(form: Form) -> u32
+pub(crate) fn number_of(form: Form) -> u32
     ensures { λ r. ⌜ r ≡ layoutOf form .form ⌝ }
 {
     match form {

@@ -4,6 +4,8 @@ mod decoding;
 mod encoding;
 mod fields;
 mod images;
+mod large_fields;
+mod large_images;
 mod mending;
 mod numbers;
 mod rates;
@@ -15,6 +17,8 @@ pub use images::move_to_form_1;
 pub use images::move_to_form_2;
 pub use images::read_image;
 pub use images::write_image;
+pub use large_images::read_large_image;
+pub use large_images::write_large_image;
 pub use mending::mend_image;
 pub use numbers::of_refusal;
 pub use rates::rate_by_id;
@@ -46,8 +50,10 @@ pub(crate) const WINDOW_SIZE_WRONG: u64 = 11 * REFUSAL_UNIT;
 pub const NAME_NOT_EMPTY: u64 = 41 * REFUSAL_UNIT;
 
 // A session record as bytes: phase, lock, wrong count and rate id, then sleep, idle and the total of wrong passwords, which is all that a call
-// can change, then the size of MAIN and the settings' fields.
+// can change, then the size of MAIN and the settings' fields, with the protection of all sectors at the end.
 pub(crate) const RECORD_SIZE: usize = 94;
+
+pub(crate) const LARGE_RECORD_SIZE: usize = 118;
 
 pub(crate) const SLEEP_AT: usize = 4;
 
@@ -68,6 +74,13 @@ pub(crate) const FIELDS_AREA_SIZE: usize = FORM_AT + 2;
 pub(crate) const NAME_AT: usize = settings::FIELDS_SIZE;
 
 pub(crate) const FORM_AT: usize = NAME_AT + settings::NAME_SIZE;
+
+// That of the larger part.
+pub(crate) const LARGE_AREA_SIZE: usize = LARGE_FORM_AT + 2;
+
+pub(crate) const LARGE_NAME_AT: usize = settings::KEPT_SIZE;
+
+pub(crate) const LARGE_FORM_AT: usize = LARGE_NAME_AT + settings::NAME_SIZE;
 
 // The area for the four counts of an image that is mended, two bytes for each.
 pub(crate) const COUNTS_SIZE: usize = 8;

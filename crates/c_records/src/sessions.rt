@@ -1,15 +1,15 @@
 // What C calls of a session, for any part. Any area of any size has an answer, and a refusal changes no byte.
 ghost use mathlib.Core.Path.{_≡_};
-ghost use Prim.Native.Nat.{_<_};
+ghost use Prim.Native.Nat.{_≤_, _<_};
+ghost use lib.ListN.{take};
 ghost use lib.Seq.{sets};
 ghost use Rattle.flash.specs.Memory.{memory};
 ghost use Rattle.session.specs.StartAnswers.{startNumbered};
 ghost use Rattle.session.specs.CallAnswers.{callNumbered};
 ghost use Rattle.c_records.specs.Stored.{stored, storedBy};
-ghost use Rattle.c_records.specs.Records.{recordSize, standingBytes, recordOf};
+ghost use Rattle.c_records.specs.Records.{standingBytes, recordBytes, recordOf};
 ghost use Rattle.c_records.specs.Boundary.{storedAfter, startFromC, called, callFromC};
 use crate::RECORD_NOT_VALID;
-use crate::RECORD_SIZE;
 use crate::REPLY_AREA_TOO_SMALL;
 use crate::WINDOW_SIZE_WRONG;
 use crate::decoding;
@@ -21,16 +21,17 @@ use session::CallAnswer;
 use session::Called;
 use session::Started;
 
-// Stores the record of a session that was started.
-fn store_record(started: Started, area: &mut [u8]) -> u64
-    ensures { λ r. ⌜ stored r (now (area .exit)) ≡ storedBy (startNumbered (started .answer)) recordSize (recordOf (started .session)) (now (area .entry)) ⌝ }
+// Stores the record of a session that was started, of a size.
+fn store_record(size: usize, started: Started, area: &mut [u8]) -> u64
+    requires { ⌜ size ≤ 118 ⌝ }
+    ensures { λ r. ⌜ stored r (now (area .exit)) ≡ storedBy (startNumbered (started .answer)) size (take size (recordBytes (started .session))) (now (area .entry)) ⌝ }
 {
     let answer = started.answer;
     let refusal = session_answers::of_start(answer);
     if refusal != 0 {
         return refusal;
     }
-    if area.len() != RECORD_SIZE {
+    if area.len() != size {
         return RECORD_NOT_VALID;
     }
     encoding::put_record(area, started.session);
@@ -49,15 +50,16 @@ pub fn start_record(
     ensures { λ r. ⌜ stored r (now (area .exit)) ≡ startFromC part fuse (now (main .entry)) (now (settings .entry)) (now (window .entry)) (now (area .entry)) ⌝ }
 {
     store_record(
+        decoding::record_size(part),
         session::start(part, fuse != 0, main, settings, window),
         area,
     )
 }
 
 // Stores the record of a call that was not refused, and makes one number of its answer. Only how the session stands can have changed.
-fn store_called(call: Called, area: &mut [u8]) -> u64
-    requires { ⌜ (sets (now area) 0 (standingBytes (call .session .standing)) ≡ recordOf (call .session)) × (callNumbered (call .answer) .size < 4294967296) ⌝ }
-    ensures { λ r. ⌜ stored r (now (area .exit)) ≡ storedAfter (callNumbered (call .answer)) (recordOf (call .session)) (now (area .entry)) ⌝ }
+fn store_called(part: Part, call: Called, area: &mut [u8]) -> u64
+    requires { ⌜ (sets (now area) 0 (standingBytes (call .session .standing)) ≡ recordOf part (call .session)) × (callNumbered (call .answer) .size < 4294967296) ⌝ }
+    ensures { λ r. ⌜ stored r (now (area .exit)) ≡ storedAfter (callNumbered (call .answer)) (recordOf part (call .session)) (now (area .entry)) ⌝ }
 {
     let answer = call.answer;
     match answer {
@@ -91,7 +93,7 @@ pub fn call_record(
     if window.len() != part.window_size as usize {
         return WINDOW_SIZE_WRONG;
     }
-    if !decoding::is_record_area(area) {
+    if !decoding::is_record_area(part, area) {
         return RECORD_NOT_VALID;
     }
     let call = session::call(
@@ -104,5 +106,5 @@ pub fn call_record(
         packet,
         reply,
     );
-    store_called(call, area)
+    store_called(part, call, area)
 }

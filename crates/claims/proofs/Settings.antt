@@ -1,10 +1,12 @@
 -- The settings image and its fields: read and written by one rule.
--- Pairs: numbers of two bytes each.
-pub mod Pairs
+-- Tables: the table of an image.
+pub mod Tables
 -- Bodies: the bodies of some settings, read and made again.
 pub mod Bodies
 -- FieldsRule: the fields of some settings are read and made by one rule.
 pub mod FieldsRule
+-- KeptRule: what a session keeps is read and made by one rule, on either part.
+pub mod KeptRule
 -- Written: a written image, part by part.
 pub mod Written
 -- Accepted: an accepted image, part by part.
@@ -23,3 +25,5 @@ pub mod AreaRule
 pub mod SettingsRuleFromC
 -- MendRule: a damaged image is mended to one that the reader accepts, and an accepted one stays as it is.
 pub mod MendRule
+-- Larger: the image of the larger part.
+pub mod Larger

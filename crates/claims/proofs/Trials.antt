@@ -11,3 +11,5 @@ pub mod SomeSessions
 pub mod NotVacuous
 -- NotVacuousFromC: and so it does as C sees it.
 pub mod NotVacuousFromC
+-- LargerPart: worked cases of the AM13E230x.
+pub mod LargerPart

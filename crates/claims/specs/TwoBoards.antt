@@ -12,16 +12,15 @@ use Rattle.line.specs.Codes.{acknowledged, unlock, replyLimit}
 use Rattle.line.specs.Packet.{coreIn}
 use Rattle.line.specs.Acknowledgement.{acknowledgement}
 use Rattle.session_state.specs.Phases.{mostWrong, isUnlocked}
-use Rattle.settings.specs.declared.Settings.{Settings}
-use Rattle.settings.specs.Reader.{readOf}
+use Rattle.settings.specs.declared.Kept.{Kept}
 use Rattle.flash.specs.Memory.{Memory}
 use Rattle.flash.specs.Protection.{mayChange}
 use Rattle.session_judge.specs.Unlocking.{alertReset}
 use Rattle.session_act.specs.Board.{settingsProtection}
-use Rattle.session_act.specs.Info.{versionAt}
+use Rattle.session_act.specs.Info.{versionOf}
 use Rattle.session.specs.declared.Session.{Session}
 use Rattle.session.specs.CallAnswers.{Left}
-use Rattle.session.specs.Starting.{startOf}
+use Rattle.session.specs.Starting.{settingsRead, startOf}
 use Rattle.session.specs.Calling.{callOf}
 
 -- ---- the boards
@@ -36,8 +35,8 @@ pub record Running : Type 0 where
   pub memory : Memory
 
 -- the settings that a board takes at start
-abbrev pub settingsOf : Images → Settings
-settingsOf images = readOf (images .settings) .contents .settings
+abbrev pub settingsOf : Images → Kept
+settingsOf images = settingsRead (images .settings) .settings
 
 abbrev pub started : Part → Images → Running
 started part images = record { session = startOf part false (images .main) (images .settings) (images .window) .session; memory = images }
@@ -48,14 +47,15 @@ pub record AlikeBoards (part : Part) (one other : Images) : Type 0 where
   -- "that both start", the fuse not being set
   pub oneStarts : startOf part false (one .main) (one .settings) (one .window) .answer .number ≡ 0
   pub otherStarts : startOf part false (other .main) (other .settings) (other .window) .answer .number ≡ 0
-  -- "of equal flash size": that of MAIN; the settings flash of every board that starts has 1,024 bytes
+  -- "of equal flash size": that of MAIN; the settings flash of every board of the part that starts has its size
   pub size : length (one .main) ≡ length (other .main)
   -- "whose good settings agree except in the two passwords": as the reader gives them. T-09: "In demand 3 the name is a third secret." Nothing is
   -- said of the names, nor of the forms: they may differ too
   pub shown : settingsOf one .shown ≡ settingsOf other .shown
   pub protection : settingsOf one .protection ≡ settingsOf other .protection
-  -- "the four published version bytes": what Info tells is the same; where the pointer is not good, both tell 0
-  pub version : versionAt (settingsOf one .shown .«version_pointer») (one .main) ≡ versionAt (settingsOf other .shown .«version_pointer») (other .main)
+  -- "the four published version bytes", T-10: "with eight version bytes here": what Info tells is the same; where the pointer is not good, both
+  -- tell 0
+  pub version : versionOf part (settingsOf one .shown) (one .main) ≡ versionOf part (settingsOf other .shown) (other .main)
 
 -- ---- a person without a password
 

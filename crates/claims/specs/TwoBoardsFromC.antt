@@ -27,9 +27,9 @@ abbrev pub startedFromC : Part → Images → List ℕ → RunningFromC
 startedFromC part images area = record { area = startedOn part images area .area; memory = images }
 
 -- what is lent to start: settings of bytes, for a record area holds bytes alone; and an area of its size, with any contents
-pub record Lent (images : Images) (area : List ℕ) : Type 0 where
+pub record Lent (part : Part) (images : Images) (area : List ℕ) : Type 0 where
   pub bytes : (k : ℕ) → getD (images .settings) k 0 < 256
-  pub size : length area ≡ recordSize
+  pub size : length area ≡ recordSize part
 
 -- ---- what is claimed after every call
 

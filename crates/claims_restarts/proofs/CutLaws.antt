@@ -12,7 +12,7 @@ use Rattle.octets.specs.Number.{part, numberOf, numberAt}
 use Rattle.octets.proofs.Parts.{length-part}
 use Rattle.octets.proofs.Searching.{pick-true, pick-false, by-test}
 use Rattle.parts.specs.declared.Part.{Part}
-use Rattle.parts.specs.Parts.{Sound}
+use Rattle.parts.specs.Parts.{versionSize, Sound}
 use Rattle.settings.specs.declared.Shown.{Shown}
 use Rattle.flash.specs.Memory.{Memory, memory}
 use Rattle.flash.specs.Protection.{mayChange, changed}
@@ -22,7 +22,7 @@ use Rattle.flash.proofs.ProtectionLaws.{one-sector, changed-keeps-length, chang
 use Rattle.session_act.specs.declared.Order.the-variants.{EraseBoth}
 use Rattle.session_act.specs.Board.{settingsProtection}
 use Rattle.session_act.specs.Orders.{carriedOut}
-use Rattle.session_act.specs.Info.{versionSize, versionAt}
+use Rattle.session_act.specs.Info.{versionAt, versionOf}
 use Rattle.claims_restarts.specs.Cuts.{someErased}
 
 module _ (sectorSize : ℕ) (protection : List ℕ) (erased : ℕ → Bool) where
@@ -60,40 +60,41 @@ module _ (sectorSize : ℕ) (protection : List ℕ) (erased : ℕ → Bool) wher
         ∙ sym (pick-true _ _ y))
         (λ n. by-keeping-rule _ (part at count region) (λ k x h. pick-false 0xFF x (one-bit k (omega arith) ∙ n)) ∙ sym (pick-false _ _ n))
 
-  module _ (pointer : ℕ) (fits : pointer % versionSize ≡ 0 → pointer % sectorSize + versionSize ≤ sectorSize) where
-    cut-four : (main : List ℕ) → pointer % versionSize ≡ 0 → pointer + versionSize ≤ length main
-        → numberAt pointer versionSize (someErased sectorSize protection erased main)
-        ≡ pick (isGone pointer) (numberOf (replicate versionSize 0xFF)) (numberAt pointer versionSize main)
-    cut-four main aligned there =
-        let four = cut-in-one-sector main pointer versionSize (fits aligned) there in
+  module _ (size pointer : ℕ) (fits : pointer % size ≡ 0 → pointer % sectorSize + size ≤ sectorSize) where
+    cut-version : (main : List ℕ) → pointer % size ≡ 0 → pointer + size ≤ length main
+        → numberAt pointer size (someErased sectorSize protection erased main)
+        ≡ pick (isGone pointer) (numberOf (replicate size 0xFF)) (numberAt pointer size main)
+    cut-version main aligned there =
+        let bytes = cut-in-one-sector main pointer size (fits aligned) there in
         by-test (isGone pointer)
-        (λ y. ap numberOf (four ∙ pick-true _ _ y) ∙ sym (pick-true _ _ y))
-        (λ n. ap numberOf (four ∙ pick-false _ _ n) ∙ sym (pick-false _ _ n))
+        (λ y. ap numberOf (bytes ∙ pick-true _ _ y) ∙ sym (pick-true _ _ y))
+        (λ n. ap numberOf (bytes ∙ pick-false _ _ n) ∙ sym (pick-false _ _ n))
 
     versionCut : ℕ → ℕ → ℕ
-    versionCut size version =
-        pick (eqb (pointer % versionSize) 0)
-        (pick (leb (pointer + versionSize) size) (pick (isGone pointer) (numberOf (replicate versionSize 0xFF)) version) 0) 0
+    versionCut mainSize version =
+        pick (eqb (pointer % size) 0)
+        (pick (leb (pointer + size) mainSize) (pick (isGone pointer) (numberOf (replicate size 0xFF)) version) 0) 0
 
-    version-cut : (main : List ℕ) → versionAt pointer (someErased sectorSize protection erased main) ≡ versionCut (length main) (versionAt pointer main)
+    version-cut : (main : List ℕ) → versionAt size pointer (someErased sectorSize protection erased main) ≡ versionCut (length main) (versionAt size pointer main)
     unfolding versionAt versionCut pick
     version-cut main =
-        by-test (eqb (pointer % versionSize) 0)
+        by-test (eqb (pointer % size) 0)
         (λ aligned.
-        by-test (leb (pointer + versionSize) (length main))
-        (λ there. rw (aligned, cut-keeps-length main, there) (cut-four main (eqb-true _ _ aligned) (leb-true _ _ there)))
+        by-test (leb (pointer + size) (length main))
+        (λ there. rw (aligned, cut-keeps-length main, there) (cut-version main (eqb-true _ _ aligned) (leb-true _ _ there)))
         (λ beyond. rw (aligned, cut-keeps-length main, beyond)))
         (λ odd. rw odd)
 
-    cut-alike : (one other : List ℕ) → length one ≡ length other → versionAt pointer one ≡ versionAt pointer other
-        → versionAt pointer (someErased sectorSize protection erased one) ≡ versionAt pointer (someErased sectorSize protection erased other)
-    cut-alike one other size same = version-cut one ∙ ap₂ versionCut size same ∙ sym (version-cut other)
+    cut-alike : (one other : List ℕ) → length one ≡ length other → versionAt size pointer one ≡ versionAt size pointer other
+        → versionAt size pointer (someErased sectorSize protection erased one) ≡ versionAt size pointer (someErased sectorSize protection erased other)
+    cut-alike one other whole same = version-cut one ∙ ap₂ versionCut whole same ∙ sym (version-cut other)
 
 -- images of one length that publish the same version do so after the same cut
-pub cut-versions-alike : (part : Part) → Sound part → (protection : List ℕ) (erased : ℕ → Bool) (pointer : ℕ) (one other : List ℕ) → length one ≡ length other
-    → versionAt pointer one ≡ versionAt pointer other
-    → versionAt pointer (someErased (part .«sector_size») protection erased one) ≡ versionAt pointer (someErased (part .«sector_size») protection erased other)
-cut-versions-alike part sound protection erased pointer = cut-alike (part .«sector_size») protection erased pointer (sound .version pointer)
+pub cut-versions-alike : (part : Part) → Sound part → (protection : List ℕ) (erased : ℕ → Bool) (shown : Shown) (one other : List ℕ) → length one ≡ length other
+    → versionOf part shown one ≡ versionOf part shown other
+    → versionOf part shown (someErased (part .«sector_size») protection erased one) ≡ versionOf part shown (someErased (part .«sector_size») protection erased other)
+cut-versions-alike part sound protection erased shown =
+    cut-alike (part .«sector_size») protection erased (versionSize (part .«long_version»)) (shown .«version_pointer») (sound .version (shown .«version_pointer»))
 
 -- ---- a board that erases MAIN first, and the settings last
 

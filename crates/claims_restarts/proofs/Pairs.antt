@@ -13,16 +13,15 @@ use Rattle.parts.specs.Parts.{Sound}
 use Rattle.session_state.specs.declared.Standing.{Standing}
 use Rattle.session_state.specs.Phases.{atStart}
 use Rattle.settings.specs.declared.Shown.{Shown}
-use Rattle.settings.specs.declared.Settings.{Settings}
+use Rattle.settings.specs.declared.Kept.{Kept}
 use Rattle.settings.specs.Answers.{Numbered, numbered}
-use Rattle.settings.specs.Reader.{readOf}
 use Rattle.flash.specs.Memory.{Memory, memory}
 use Rattle.session_judge.specs.declared.Judged.{Judged}
 use Rattle.session_judge.proofs.StrangerLaws.{only-unlock-is-compared}
 use Rattle.session_act.specs.declared.Order.the-variants.{Keep, EraseBoth}
 use Rattle.session_act.proofs.LockedLaws.{isStrike}
 use Rattle.session.specs.StartAnswers.{StartTold}
-use Rattle.session.specs.Starting.{startOf}
+use Rattle.session.specs.Starting.{settingsRead, startOf}
 use Rattle.session.specs.CallAnswers.{Left}
 use Rattle.claims.specs.TwoBoards.{Images, Running, settingsOf, AlikeBoards, Carries, Sending, WithoutPassword, next, isStruck}
 use Rattle.claims.proofs.Sessions.CallRules.{not-found, every-start, locked-session-orders}
@@ -80,7 +79,7 @@ module _ (part : Part) (sound : Sound part) (one other : Images) where
     unfolding startedBy
     clear-start clear starts =
         rw clear (
-          every-start part false (images .main) (images .settings) (images .window) (λ told. told .answer ≡ numbered 0 0) (λ size lent read. refl) starts,
+          every-start part false (images .main) (images .settings) (images .window) (λ told. told .answer ≡ numbered 0 0) (λ size whole lent read. refl) starts,
           pick-true _ _ (eq-eqb _ _ starts) ∙ ap (λ (board : Running). On board) (started-is-later part images starts),
         )
 
@@ -102,7 +101,7 @@ module _ (part : Part) (sound : Sound part) (one other : Images) where
           b = b;
           standing = atStart;
           twins = twins;
-          together = record { oneLocked = started-is-locked part a (twins .alike .oneStarts) sound; otherLocked = started-is-locked part b (twins .alike .otherStarts) sound };
+          together = record { oneLocked = started-is-locked part a (twins .alike .oneStarts); otherLocked = started-is-locked part b (twins .alike .otherStarts) };
           windows = windows;
           oneIs = oneIs .1;
           otherIs = otherIs .1;
@@ -128,7 +127,7 @@ module _ (part : Part) (sound : Sound part) (one other : Images) where
   off-step a b twins (Cut sending erased) = record { seen = refl; locked = tt; pair = inl (record { a = a; b = b; twins = twins; oneIs = refl; otherIs = refl }) }
 
   -- a locked board to which a packet without its password is sent, and the power goes: nothing is done, or the strike's erase is cut
-  cut-by-bit : (settings : Settings) (packet : List ℕ) (erased : ℕ → Bool) (before : Memory) (bit : Bool)
+  cut-by-bit : (settings : Kept) (packet : List ℕ) (erased : ℕ → Bool) (before : Memory) (bit : Bool)
       → cutWithin part settings packet erased before (pick bit EraseBoth Keep) ≡ pick bit (cutInMain part (settings .protection) erased before) before
   unfolding cutWithin pick
   cut-by-bit settings packet erased before true = refl
@@ -187,8 +186,8 @@ module _ (part : Part) (sound : Sound part) (one other : Images) where
       cut-leaves-twins kept =
           let then = leaves-twins kept in
           let cut = cut-twins part sound one other (later part a standing .memory) (later part b standing .memory) then erased in
-          let oneKept = ap (λ (image : List ℕ). readOf image .contents .settings .protection) (then .oneSettings ∙ sym (twins .oneSettings)) in
-          let otherKept = ap (λ (image : List ℕ). readOf image .contents .settings .protection) (then .otherSettings ∙ sym (twins .otherSettings)) in
+          let oneKept = ap (λ (image : List ℕ). settingsRead image .settings .protection) (then .oneSettings ∙ sym (twins .oneSettings)) in
+          let otherKept = ap (λ (image : List ℕ). settingsRead image .settings .protection) (then .otherSettings ∙ sym (twins .otherSettings)) in
           by-test strikes
           (λ y. rw y
           (subst (λ (bits : List ℕ). Twins part sound one other (cutInMain part bits erased (later part a standing .memory)) (cutInMain part (settingsOf b .protection) erased (later part b standing .memory))) oneKept

@@ -9,10 +9,9 @@ use borrow.Author.Tests.{eqb-true}
 use Rattle.octets.specs.Choice.{pick}
 use Rattle.octets.proofs.Searching.{pick-true, pick-false, pick-both, by-test}
 use Rattle.parts.specs.declared.Part.{Part}
-use Rattle.parts.specs.Parts.{mspm0, Sound}
-use Rattle.parts.proofs.PartLaws.{mspm0-is-sound}
+use Rattle.parts.specs.Parts.{mspm0, am13e230x, Sound}
+use Rattle.parts.proofs.PartLaws.{mspm0-is-sound, am13e230x-is-sound}
 use Rattle.settings.specs.Answers.{Numbered}
-use Rattle.settings.specs.Layout.{imageSize}
 use Rattle.flash.specs.Memory.{Memory}
 use Rattle.session_judge.specs.Unlocking.{alertReset}
 use Rattle.claims.specs.TwoBoards.{Images, Running, settingsOf, AlikeBoards, isStruck}
@@ -141,7 +140,7 @@ module _ (part : Part) (sound : Sound part) (one other : Images) where
       (λ p. rw (sym (p .twins .oneSettings)) (eqb-true _ _ (pick-both _ _ (sym (ap hasStruck (p .oneIs)) ∙ struck) .0)))
       pair
 
-  pub advised-boards-stay-alike : imageSize ≤ part .«sector_size» → (history : List Move) → Advised part one other history → AlikeAndLocked part one other history
+  pub advised-boards-stay-alike : part .«settings_size» ≤ part .«sector_size» → (history : List Move) → Advised part one other history → AlikeAndLocked part one other history
   advised-boards-stay-alike oneSector history asked =
       let so =
       held-locked (asked .boards) (λ history. Unit) (λ move earlier u. tt)
@@ -164,7 +163,7 @@ module _ (part : Part) (sound : Sound part) (one other : Images) where
       (λ move earlier e pair ends struck. absurd (not-over-before move earlier e .1 ends struck)) history (asked .before) (asked .room) (asked .without) in
       record { seen = so .seen; locked = so .locked }
 
-  pub no-returning-person-tells-advised-boards-apart : imageSize ≤ part .«sector_size» → (person : Person) (moves : ℕ) → Advised part one other (historyOf part one person moves)
+  pub no-returning-person-tells-advised-boards-apart : part .«settings_size» ≤ part .«sector_size» → (person : Person) (moves : ℕ) → Advised part one other (historyOf part one person moves)
       → AlikeTo part one other person moves
   no-returning-person-tells-advised-boards-apart oneSector person =
       any-person (portOne part) (portOther part) one other (Advised part one other)
@@ -194,3 +193,27 @@ module _ (one other : Images) where
   -- any board, until the session has ended in which the alert first strikes
   pub any-mspm0-boards-are-alike-until-struck : (history : List Move) → UntilStruck mspm0 one other history → AlikeAndLocked mspm0 one other history
   any-mspm0-boards-are-alike-until-struck = any-boards-are-alike-until-struck mspm0 mspm0-is-sound one other
+
+-- ---- two boards of the AM13E230x, whose window has no bytes
+
+module _ (one other : Images) where
+  -- T-12, as a whole
+  pub am13e230x-boards-stay-alike : (history : List Move) → Returning am13e230x one other history → Alike am13e230x one other history
+  am13e230x-boards-stay-alike = boards-stay-alike am13e230x am13e230x-is-sound one other
+
+  -- the request's own sentence
+  pub the-question-over-am13e230x-restarts : (history : List Move) → Requested am13e230x one other history → Alike am13e230x one other history
+  the-question-over-am13e230x-restarts history asked = am13e230x-boards-stay-alike history (asked .returning)
+
+  -- for a person who chooses each packet, wait and restart by the replies so far
+  pub no-returning-person-tells-am13e230x-boards-apart : (person : Person) (moves : ℕ) → Returning am13e230x one other (historyOf am13e230x one person moves)
+      → AlikeTo am13e230x one other person moves
+  no-returning-person-tells-am13e230x-boards-apart = no-returning-person-tells-boards-apart am13e230x am13e230x-is-sound one other
+
+  -- the board as we advise it
+  pub advised-am13e230x-boards-stay-alike : (history : List Move) → Advised am13e230x one other history → AlikeAndLocked am13e230x one other history
+  advised-am13e230x-boards-stay-alike = advised-boards-stay-alike am13e230x am13e230x-is-sound one other (omega arith)
+
+  -- any board, until the session has ended in which the alert first strikes
+  pub any-am13e230x-boards-are-alike-until-struck : (history : List Move) → UntilStruck am13e230x one other history → AlikeAndLocked am13e230x one other history
+  any-am13e230x-boards-are-alike-until-struck = any-boards-are-alike-until-struck am13e230x am13e230x-is-sound one other

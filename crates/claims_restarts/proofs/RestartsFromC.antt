@@ -11,11 +11,10 @@ use Rattle.octets.specs.Choice.{pick}
 use Rattle.octets.specs.Number.{bytesOf}
 use Rattle.octets.proofs.Searching.{pick-true, pick-false, by-test, by-pick}
 use Rattle.parts.specs.declared.Part.{Part}
-use Rattle.parts.specs.Parts.{mspm0, Sound}
-use Rattle.parts.proofs.PartLaws.{mspm0-is-sound}
+use Rattle.parts.specs.Parts.{mspm0, am13e230x, Sound}
+use Rattle.parts.proofs.PartLaws.{mspm0-is-sound, am13e230x-is-sound}
 use Rattle.line.specs.Codes.{replyLimit}
 use Rattle.settings.specs.Answers.{Numbered, numbered}
-use Rattle.settings.specs.Layout.{imageSize}
 use Rattle.flash.specs.Memory.{Memory}
 use Rattle.session_act.proofs.ActingLaws.{orders-keep-lengths}
 use Rattle.session.specs.declared.Session.{Session}
@@ -26,14 +25,14 @@ use Rattle.session.proofs.RecordLaws.{record-by-clauses}
 use Rattle.c_records.specs.OneNumber.{oneNumber, refusalOf}
 use Rattle.c_records.specs.Stored.{Stored, stored, storedBy}
 use Rattle.c_records.specs.Records.{recordSize, standingBytes, recordOf, sessionIn}
-use Rattle.claims.specs.Held.{Held}
+use Rattle.claims.specs.Held.{HeldKept}
 use Rattle.claims.specs.TwoBoards.{Images, Running, Sending, called, next}
 use Rattle.claims.specs.TwoBoardsFromC.{RunningFromC, calledFromC}
 use Rattle.claims.specs.Visits.{Step, Seen, stepOf, SeenFromC, stepFromC}
 use Rattle.claims.proofs.Sessions.CallRules.{every-start, started-has-window, started-is-valid}
 use Rattle.claims.proofs.Sessions.HeldSessions.{valid-is-held}
 use Rattle.claims.proofs.Sessions.RecordRule.{decode-after-encode}
-use Rattle.claims.proofs.Settings.HeldSettings.{read-is-held}
+use Rattle.claims.proofs.Settings.HeldSettings.{taken-is-held}
 use Rattle.claims.proofs.Secrecy.ToldApartFromC.{fromC, stands-are, locked-says-0, replied-is, Fine, fine-then, call-from-C}
 use Rattle.claims_restarts.specs.Moves.{Starting, Move, Start, Send, Cut, Now, Off, On, Sight, Nothing, OfStart, OfCall, moved, sight, nowAfter, seenAfter, Throughout}
 use Rattle.claims_restarts.specs.Cuts.{isEraseBoth, cutWithin}
@@ -46,9 +45,9 @@ use Rattle.claims_restarts.proofs.Restarts.{any-person, returning-befor
 
 -- ---- what C has, by what there is by value; the size is that of MAIN
 
-abbrev nowFromC : Now Running → Now RunningFromC
-nowFromC (Off images) = Off images
-nowFromC (On board) = On (fromC board)
+abbrev nowFromC : Part → Now Running → Now RunningFromC
+nowFromC part (Off images) = Off images
+nowFromC part (On board) = On (fromC part board)
 
 abbrev seenFromC : ℕ → Seen → SeenFromC
 seenFromC size seen =
@@ -65,26 +64,26 @@ sightFromC size (OfCall seen) = OfCall (seenFromC size seen)
 refused-is-not-0 : (told : Numbered) → eqb (told .number) 0 ≡ false → eqb (refusalOf told) 0 ≡ false
 refused-is-not-0 told n = ne-eqb (refusalOf told) 0 (λ e. absurd (eqb-false (told .number) 0 n (omega arith)))
 
-module _ (told : StartTold) (images : Memory) (area : List ℕ) (size : length area ≡ recordSize)
+module _ (part : Part) (told : StartTold) (images : Memory) (area : List ℕ) (size : length area ≡ recordSize part)
     (accepted : told .answer .number ≡ 0 → told .answer ≡ numbered 0 0)
   where
     abbrev left : Stored
-    left = storedBy (told .answer) recordSize (recordOf (told .session)) area
+    left = storedBy (told .answer) (recordSize part) (recordOf part (told .session)) area
 
-    accepted-is : eqb (told .answer .number) 0 ≡ true → (left .answer ≡ refusalOf (told .answer)) × (startedFrom left images ≡ nowFromC (startedBy told images))
+    accepted-is : eqb (told .answer .number) 0 ≡ true → (left .answer ≡ refusalOf (told .answer)) × (startedFrom left images ≡ nowFromC part (startedBy told images))
     unfolding storedBy startedFrom startedBy pick
-    accepted-is y = rw (accepted (eqb-true _ _ y), eq-eqb (length area) recordSize size) (refl, refl)
+    accepted-is y = rw (accepted (eqb-true _ _ y), eq-eqb (length area) (recordSize part) size) (refl, refl)
 
-    refused-is : eqb (told .answer .number) 0 ≡ false → (left .answer ≡ refusalOf (told .answer)) × (startedFrom left images ≡ nowFromC (startedBy told images))
+    refused-is : eqb (told .answer .number) 0 ≡ false → (left .answer ≡ refusalOf (told .answer)) × (startedFrom left images ≡ nowFromC part (startedBy told images))
     unfolding storedBy startedFrom startedBy
     refused-is n =
         let not-0 = refused-is-not-0 (told .answer) n in
         let kept : left ≡ stored (refusalOf (told .answer)) area = pick-true _ _ (ap not not-0) in (
           ap (λ (left : Stored). left .answer) kept,
-          ap (λ (left : Stored). startedFrom left images) kept ∙ pick-false _ _ not-0 ∙ ap nowFromC (sym (pick-false _ _ n)),
+          ap (λ (left : Stored). startedFrom left images) kept ∙ pick-false _ _ not-0 ∙ ap (nowFromC part) (sym (pick-false _ _ n)),
         )
 
-    stored-is : (left .answer ≡ refusalOf (told .answer)) × (startedFrom left images ≡ nowFromC (startedBy told images))
+    stored-is : (left .answer ≡ refusalOf (told .answer)) × (startedFrom left images ≡ nowFromC part (startedBy told images))
     stored-is = by-test (eqb (told .answer .number) 0) accepted-is refused-is
 
 -- ---- one board of a sound part, lent its areas
@@ -116,11 +115,11 @@ module _ (part : Part) (sound : Sound part) (size : ℕ) where
     abbrev tells : StartTold
     tells = begun part starting images
 
-    start-from-C : (area : List ℕ) → length area ≡ recordSize
+    start-from-C : (area : List ℕ) → length area ≡ recordSize part
         → (begunFromC part area starting images .answer ≡ refusalOf (tells .answer))
-        × (startedFrom (begunFromC part area starting images) images ≡ nowFromC (startedBy tells images))
+        × (startedFrom (begunFromC part area starting images) images ≡ nowFromC part (startedBy tells images))
     start-from-C area fits =
-        stored-is tells images area fits (every-start part fuse (images .main) (images .settings) (images .window) (λ told. told .answer ≡ numbered 0 0) (λ good lent read. refl))
+        stored-is part tells images area fits (every-start part fuse (images .main) (images .settings) (images .window) (λ told. told .answer ≡ numbered 0 0) (λ good whole lent read. refl))
 
     start-is-sane : Sane (startedBy tells images)
     unfolding startedBy
@@ -130,13 +129,13 @@ module _ (part : Part) (sound : Sound part) (size : ℕ) where
         let starts = eqb-true _ _ y in
         record {
           fine = record {
-            valid = started-is-valid part fuse (images .main) (images .settings) (images .window) sound starts;
+            valid = started-is-valid part fuse (images .main) (images .settings) (images .window) starts;
             window = started-has-window part fuse (images .main) (images .settings) (images .window) starts;
             held =
-                every-start part fuse (images .main) (images .settings) (images .window) (λ told. Held (told .session .settings))
-                (λ good lent read. read-is-held (images .settings) (sane .bytes) read .settings) starts;
+                every-start part fuse (images .main) (images .settings) (images .window) (λ told. HeldKept part (told .session .settings))
+                (λ good whole lent read. taken-is-held part (images .settings) (sane .bytes) whole read) starts;
           };
-          main = every-start part fuse (images .main) (images .settings) (images .window) (λ told. told .session .«main_size» ≡ size) (λ good lent read. sane .main) starts;
+          main = every-start part fuse (images .main) (images .settings) (images .window) (λ told. told .session .«main_size» ≡ size) (λ good whole lent read. sane .main) starts;
           bytes = sane .bytes;
         })
         (λ n. sane)
@@ -157,16 +156,16 @@ module _ (part : Part) (sound : Sound part) (size : ℕ) where
     }
 
     step-from-C : replyLimit ≤ length reply
-        → stepFromC (calledFromC part (fromC board) sending reply)
-        ≡ record { board = fromC (next after); seen = seenFromC size (stepOf after .seen) }
+        → stepFromC (calledFromC part (fromC part board) sending reply)
+        ≡ record { board = fromC part (next after); seen = seenFromC size (stepOf after .seen) }
     step-from-C room =
         ap stepFromC (call-from-C part sound board (sane .fine) sending reply room)
-        ∙ rw (replied-is after (call-size-fits part (board .session) (board .memory) (sending .wait) (sending .packet) reply), stands-are (after .session), call-is-sane .main) refl
+        ∙ rw (replied-is part after (call-size-fits part (board .session) (board .memory) (sending .wait) (sending .packet) reply), stands-are part (after .session), call-is-sane .main) refl
 
-    cut-from-C : (erased : ℕ → Bool) → cutOff part (record { session = sessionIn (recordOf (board .session)); memory = board .memory }) sending erased ≡ cutOff part board sending erased
+    cut-from-C : (erased : ℕ → Bool) → cutOff part (record { session = sessionIn (recordOf part (board .session)); memory = board .memory }) sending erased ≡ cutOff part board sending erased
     cut-from-C erased =
         ap (λ (session : Session). cutOff part (record { session = session; memory = board .memory }) sending erased)
-        (decode-after-encode (board .session) (valid-is-held part sound (board .session) _ _ (sane .fine .valid) (sane .fine .held)))
+        (decode-after-encode part (board .session) (valid-is-held part sound (board .session) _ _ (sane .fine .valid) (sane .fine .held)))
 
     cut-is-sane : (erased : ℕ → Bool) → SaneOff (cutOff part board sending erased)
     unfolding cutWithin
@@ -185,16 +184,16 @@ module _ (part : Part) (sound : Sound part) (size : ℕ) where
 
   module _ (area : Starting → List ℕ) (reply : Sending → List ℕ) where
     abbrev Fits : Move → Type 0
-    Fits (Start starting) = length (area starting) ≡ recordSize
+    Fits (Start starting) = length (area starting) ≡ recordSize part
     Fits (Send sending) = replyLimit ≤ length (reply sending)
     Fits (Cut sending erased) = Unit
 
     record MovesAlong (now : Now Running) (move : Move) : Type 0 where
-      seen : sight (portByFromC part area reply) (nowFromC now) move ≡ sightFromC size (sight (portBy part reply) now move)
-      board : moved (portByFromC part area reply) (nowFromC now) move ≡ nowFromC (moved (portBy part reply) now move)
+      seen : sight (portByFromC part area reply) (nowFromC part now) move ≡ sightFromC size (sight (portBy part reply) now move)
+      board : moved (portByFromC part area reply) (nowFromC part now) move ≡ nowFromC part (moved (portBy part reply) now move)
       sane : Sane (moved (portBy part reply) now move)
 
-    started-along : (starting : Starting) (images : Memory) → SaneOff images → length (area starting) ≡ recordSize → MovesAlong (Off images) (Start starting)
+    started-along : (starting : Starting) (images : Memory) → SaneOff images → length (area starting) ≡ recordSize part → MovesAlong (Off images) (Start starting)
     started-along starting images sane fits =
         let handed : SaneOff (fresh part images) = record { main = sane .main; bytes = sane .bytes } in
         let both = start-from-C starting (fresh part images) handed (area starting) fits in
@@ -223,7 +222,7 @@ module _ (part : Part) (sound : Sound part) (size : ℕ) where
 
     record Follows (images : Memory) (history : List Move) : Type 0 where
       seen : seenAfter (portByFromC part area reply) images history ≡ map (sightFromC size) (seenAfter (portBy part reply) images history)
-      board : nowAfter (portByFromC part area reply) images history ≡ nowFromC (nowAfter (portBy part reply) images history)
+      board : nowAfter (portByFromC part area reply) images history ≡ nowFromC part (nowAfter (portBy part reply) images history)
       sane : Sane (nowAfter (portBy part reply) images history)
 
     follows : (images : Memory) → SaneOff images → (history : List Move) → Throughout Fits history → Follows images history
@@ -243,21 +242,21 @@ module _ (part : Part) (sound : Sound part) (size : ℕ) where
 
 module _ (part : Part) (sound : Sound part) (one other : Images) where
   -- both callers' areas fit
-  one-fits : (history : List Move) → Throughout Roomy history → Throughout HasRecords history
+  one-fits : (history : List Move) → Throughout Roomy history → Throughout (HasRecords part) history
       → Throughout (Fits part sound (length (one .main)) (λ starting. starting .oneRecord) (λ sending. sending .oneArea)) history
   one-fits [] room records = tt
   one-fits (Start starting ∷ earlier) room records = (records .0 .one, one-fits earlier (room .1) (records .1))
   one-fits (Send sending ∷ earlier) room records = (room .0 .one, one-fits earlier (room .1) (records .1))
   one-fits (Cut sending erased ∷ earlier) room records = (tt, one-fits earlier (room .1) (records .1))
 
-  other-fits : (history : List Move) → Throughout Roomy history → Throughout HasRecords history
+  other-fits : (history : List Move) → Throughout Roomy history → Throughout (HasRecords part) history
       → Throughout (Fits part sound (length (other .main)) (λ starting. starting .otherRecord) (λ sending. sending .otherArea)) history
   other-fits [] room records = tt
   other-fits (Start starting ∷ earlier) room records = (records .0 .other, other-fits earlier (room .1) (records .1))
   other-fits (Send sending ∷ earlier) room records = (room .0 .other, other-fits earlier (room .1) (records .1))
   other-fits (Cut sending erased ∷ earlier) room records = (tt, other-fits earlier (room .1) (records .1))
 
-  module _ (history : List Move) (lent : FromC one other history) (room : Throughout Roomy history) where
+  module _ (history : List Move) (lent : FromC part one other history) (room : Throughout Roomy history) where
     one-from-C : seenAfter (portOneFromC part) one history ≡ map (sightFromC (length (one .main))) (seenAfter (portOne part) one history)
     one-from-C =
         follows part sound (length (one .main)) (λ starting. starting .oneRecord) (λ sending. sending .oneArea) one (record { main = refl; bytes = lent .oneBytes }) history
@@ -301,10 +300,10 @@ module _ (part : Part) (sound : Sound part) (one other : Images) where
       (λ move earlier asked. record { returning = returning-before part one other move earlier (asked .returning); lent = lent-before move earlier (asked .lent) })
       boards-stay-alike-from-C person
     where
-      lent-before : (move : Move) (earlier : List Move) → FromC one other (move ∷ earlier) → FromC one other earlier
+      lent-before : (move : Move) (earlier : List Move) → FromC part one other (move ∷ earlier) → FromC part one other earlier
       lent-before move earlier lent = record { oneBytes = lent .oneBytes; otherBytes = lent .otherBytes; records = lent .records .1 }
 
-  pub advised-boards-stay-alike-from-C : imageSize ≤ part .«sector_size» → (history : List Move) → AdvisedFromC part one other history
+  pub advised-boards-stay-alike-from-C : part .«settings_size» ≤ part .«sector_size» → (history : List Move) → AdvisedFromC part one other history
       → AlikeAndLockedFromC part one other history
   advised-boards-stay-alike-from-C oneSector history asked =
       let advised = asked .advised in
@@ -330,3 +329,19 @@ module _ (one other : Images) where
 
   pub any-mspm0-boards-are-alike-until-struck-from-C : (history : List Move) → UntilStruckFromC mspm0 one other history → AlikeAndLockedFromC mspm0 one other history
   any-mspm0-boards-are-alike-until-struck-from-C = any-boards-are-alike-until-struck-from-C mspm0 mspm0-is-sound one other
+
+-- ---- two boards of the AM13E230x, whose window has no bytes
+
+module _ (one other : Images) where
+  pub am13e230x-boards-stay-alike-from-C : (history : List Move) → ReturningFromC am13e230x one other history → AlikeFromC am13e230x one other history
+  am13e230x-boards-stay-alike-from-C = boards-stay-alike-from-C am13e230x am13e230x-is-sound one other
+
+  pub no-returning-person-tells-am13e230x-boards-apart-from-C : (person : PersonFromC) (moves : ℕ) → ReturningFromC am13e230x one other (historyOfFromC am13e230x one person moves)
+      → AlikeToFromC am13e230x one other person moves
+  no-returning-person-tells-am13e230x-boards-apart-from-C = no-returning-person-tells-boards-apart-from-C am13e230x am13e230x-is-sound one other
+
+  pub advised-am13e230x-boards-stay-alike-from-C : (history : List Move) → AdvisedFromC am13e230x one other history → AlikeAndLockedFromC am13e230x one other history
+  advised-am13e230x-boards-stay-alike-from-C = advised-boards-stay-alike-from-C am13e230x am13e230x-is-sound one other (omega arith)
+
+  pub any-am13e230x-boards-are-alike-until-struck-from-C : (history : List Move) → UntilStruckFromC am13e230x one other history → AlikeAndLockedFromC am13e230x one other history
+  any-am13e230x-boards-are-alike-until-struck-from-C = any-boards-are-alike-until-struck-from-C am13e230x am13e230x-is-sound one other

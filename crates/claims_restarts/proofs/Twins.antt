@@ -10,16 +10,14 @@ use Rattle.octets.specs.Choice.{pick}
 use Rattle.parts.specs.declared.Part.{Part}
 use Rattle.parts.specs.Parts.{Sound}
 use Rattle.settings.specs.declared.Shown.{Shown}
-use Rattle.settings.specs.Layout.{imageSize}
 use Rattle.flash.specs.Protection.{isProtected}
 use Rattle.flash.proofs.ErasingLaws.{erase-all-keeps-length, erase-all-of-protected}
 use Rattle.session_act.specs.Board.{settingsProtection}
-use Rattle.session_act.specs.Info.{versionAt}
+use Rattle.session_act.specs.Info.{versionOf}
 use Rattle.session.specs.StartAnswers.{StartTold}
 use Rattle.session.specs.Starting.{startOf}
-use Rattle.session.proofs.RecordLaws.{record-by-clauses}
 use Rattle.claims.specs.TwoBoards.{Images, settingsOf, AlikeBoards}
-use Rattle.claims.proofs.Sessions.CallRules.{started-has-window, started-is-valid}
+use Rattle.claims.proofs.Sessions.CallRules.{started-has-window, started-has-settings}
 use Rattle.claims.proofs.Secrecy.LockedBoard.{imageThen, versions-stay-alike, memoryThen}
 use Rattle.claims_restarts.specs.Cuts.{someErased, cutInMain}
 use Rattle.claims_restarts.specs.Boards.{zeros, fresh}
@@ -49,7 +47,7 @@ starts-by-size part before now became = rw (became .settings, became .main, beca
 
 -- whatever became of MAIN: while the settings are as before and the published version is the same, the boards are alike
 alike-by-main : (part : Part) (a b c d : Images) → AlikeBoards part a b → Became a c → Became b d
-    → versionAt (settingsOf a .shown .«version_pointer») (c .main) ≡ versionAt (settingsOf b .shown .«version_pointer») (d .main)
+    → versionOf part (settingsOf a .shown) (c .main) ≡ versionOf part (settingsOf b .shown) (d .main)
     → AlikeBoards part c d
 alike-by-main part a b c d alike one other version =
     record {
@@ -67,8 +65,9 @@ unfolding imageThen pick
 not-struck-is-kept part images = refl
 
 -- the settings of a board that starts have their size
-pub settings-size : (part : Part) → Sound part → (images : Images) → startOf part false (images .main) (images .settings) (images .window) .answer .number ≡ 0 → length (images .settings) ≡ imageSize
-settings-size part sound images starts = record-by-clauses part _ _ _ (started-is-valid part false (images .main) (images .settings) (images .window) sound starts) .settings
+pub settings-size : (part : Part) (images : Images) → startOf part false (images .main) (images .settings) (images .window) .answer .number ≡ 0
+    → length (images .settings) ≡ part .«settings_size»
+settings-size part images starts = started-has-settings part false (images .main) (images .settings) (images .window) starts
 
 -- the settings' one sector
 in-first-sector : (sectorSize place : ℕ) → place < sectorSize → place / sectorSize ≡ 0
@@ -82,7 +81,7 @@ module _ (part : Part) (sound : Sound part) (one other : Images) where
   -- the settings outlast a strike: they are protected, and are one sector
   pub record KeepsSettings : Type 0 where
     pub bit : settingsOf one .shown .«settings_protected» ≡ 1
-    pub oneSector : imageSize ≤ part .«sector_size»
+    pub oneSector : part .«settings_size» ≤ part .«sector_size»
 
   -- two boards that are alike, and have what the first two had but for the bytes of MAIN
   pub record Twins (a b : Images) : Type 0 where
@@ -96,7 +95,7 @@ module _ (part : Part) (sound : Sound part) (one other : Images) where
 
   -- MAIN became something else
   twins-by-main : (a b c d : Images) → Twins a b → Became a c → Became b d
-      → versionAt (settingsOf a .shown .«version_pointer») (c .main) ≡ versionAt (settingsOf b .shown .«version_pointer») (d .main)
+      → versionOf part (settingsOf a .shown) (c .main) ≡ versionOf part (settingsOf b .shown) (d .main)
       → Twins c d
   twins-by-main a b c d twins oneNow otherNow version = record {
     alike = alike-by-main part a b c d (twins .alike) oneNow otherNow version;
@@ -107,8 +106,8 @@ module _ (part : Part) (sound : Sound part) (one other : Images) where
 
   module _ (a b : Images) (twins : Twins a b) where
     -- one version pointer and one protection for both
-    same-version : versionAt (settingsOf a .shown .«version_pointer») (a .main) ≡ versionAt (settingsOf a .shown .«version_pointer») (b .main)
-    same-version = twins .alike .version ∙ ap (λ (shown : Shown). versionAt (shown .«version_pointer») (b .main)) (sym (twins .alike .shown))
+    same-version : versionOf part (settingsOf a .shown) (a .main) ≡ versionOf part (settingsOf a .shown) (b .main)
+    same-version = twins .alike .version ∙ ap (λ (shown : Shown). versionOf part shown (b .main)) (sym (twins .alike .shown))
 
     -- the windows are handed over as zeros
     pub fresh-twins : Twins (fresh part a) (fresh part b)
@@ -127,8 +126,8 @@ module _ (part : Part) (sound : Sound part) (one other : Images) where
     cut-twins erased =
         twins-by-main a b _ _ twins
         (record { settings = refl; main = cut-keeps-length _ _ erased (a .main); window = refl }) (record { settings = refl; main = cut-keeps-length _ _ erased (b .main); window = refl })
-        (cut-versions-alike part sound (settingsOf a .protection) erased (settingsOf a .shown .«version_pointer») (a .main) (b .main) (twins .alike .size) same-version
-        ∙ ap₂ (λ (shown : Shown) (protection : List ℕ). versionAt (shown .«version_pointer») (someErased (part .«sector_size») protection erased (b .main)))
+        (cut-versions-alike part sound (settingsOf a .protection) erased (settingsOf a .shown) (a .main) (b .main) (twins .alike .size) same-version
+        ∙ ap₂ (λ (shown : Shown) (protection : List ℕ). versionOf part shown (someErased (part .«sector_size») protection erased (b .main)))
         (twins .alike .shown) (twins .alike .protection))
 
     -- where the alert has struck and the settings were protected, MAIN alone was erased
@@ -142,8 +141,8 @@ module _ (part : Part) (sound : Sound part) (one other : Images) where
           main = erase-all-keeps-length _ _ 0 0 (b .main);
           window = refl;
         })
-        (versions-stay-alike part sound (settingsOf a .shown .«version_pointer») (settingsOf a .protection) (a .main) (b .main) (twins .alike .size) same-version true
-        ∙ ap₂ (λ (shown : Shown) (protection : List ℕ). versionAt (shown .«version_pointer») (imageThen (part .«sector_size») true protection (b .main)))
+        (versions-stay-alike part sound (settingsOf a .shown) (settingsOf a .protection) (a .main) (b .main) (twins .alike .size) same-version true
+        ∙ ap₂ (λ (shown : Shown) (protection : List ℕ). versionOf part shown (imageThen (part .«sector_size») true protection (b .main)))
         (twins .alike .shown) (twins .alike .protection))
       where
         bit : settingsOf a .shown .«settings_protected» ≡ 1
@@ -154,7 +153,7 @@ module _ (part : Part) (sound : Sound part) (one other : Images) where
             → imageThen (part .«sector_size») true (settingsProtection (settingsOf images .shown)) (images .settings) ≡ images .settings
         settings-kept images starts bit =
             erase-all-of-protected _ _ (images .settings)
-            (λ place there. rw (bit, in-first-sector (part .«sector_size») place (omega (arith, kept .oneSector, settings-size part sound images starts))) one-is-protected)
+            (λ place there. rw (bit, in-first-sector (part .«sector_size») place (omega (arith, kept .oneSector, settings-size part images starts))) one-is-protected)
 
     -- a session that ends leaves twins, unless it was struck and its settings were not protected
     pub memory-twins : (struck : Bool) → (struck ≡ true → KeepsSettings)

@@ -5,7 +5,7 @@ use mathlib.Core.Bool.{Bool, true, false}
 use mathlib.Core.List.{List}
 use Rattle.octets.specs.Choice.{pick}
 use Rattle.parts.specs.declared.Part.{Part}
-use Rattle.settings.specs.declared.Settings.{Settings}
+use Rattle.settings.specs.declared.Kept.{Kept}
 use Rattle.flash.specs.Memory.{Memory, memory}
 use Rattle.flash.specs.Protection.{changed}
 use Rattle.session_act.specs.declared.Order.{Order}
@@ -32,7 +32,7 @@ isEraseBoth (ProgramSettings offset size) = false
 isEraseBoth (StoreWindow offset size) = false
 
 -- what the power leaves of an order: every other one is done whole
-unfoldable pub cutWithin : Part → Settings → List ℕ → (ℕ → Bool) → Memory → Order → Memory
+unfoldable pub cutWithin : Part → Kept → List ℕ → (ℕ → Bool) → Memory → Order → Memory
 cutWithin part settings packet erased before order =
     pick (isEraseBoth order) (cutInMain part (settings .protection) erased before)
     (carriedOut part (settings .shown) (settings .protection) packet before order)

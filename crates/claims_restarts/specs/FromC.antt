@@ -49,32 +49,32 @@ portOtherFromC part = portByFromC part (λ starting. starting .otherRecord) (λ 
 -- ---- what is asked beside
 
 -- each start is lent record areas of their size, with any contents
-pub record LentRecords (starting : Starting) : Type 0 where
-  pub one : length (starting .oneRecord) ≡ recordSize
-  pub other : length (starting .otherRecord) ≡ recordSize
+pub record LentRecords (part : Part) (starting : Starting) : Type 0 where
+  pub one : length (starting .oneRecord) ≡ recordSize part
+  pub other : length (starting .otherRecord) ≡ recordSize part
 
-abbrev pub HasRecords : Move → Type 0
-HasRecords (Start starting) = LentRecords starting
-HasRecords (Send sending) = Unit
-HasRecords (Cut sending erased) = Unit
+abbrev pub HasRecords : Part → Move → Type 0
+HasRecords part (Start starting) = LentRecords part starting
+HasRecords part (Send sending) = Unit
+HasRecords part (Cut sending erased) = Unit
 
 -- the settings are bytes, for a record area holds bytes alone
-pub record FromC (one other : Images) (history : List Move) : Type 0 where
+pub record FromC (part : Part) (one other : Images) (history : List Move) : Type 0 where
   pub oneBytes : (k : ℕ) → getD (one .settings) k 0 < 256
   pub otherBytes : (k : ℕ) → getD (other .settings) k 0 < 256
-  pub records : Throughout HasRecords history
+  pub records : Throughout (HasRecords part) history
 
 pub record ReturningFromC (part : Part) (one other : Images) (history : List Move) : Type 0 where
   pub returning : Returning part one other history
-  pub lent : FromC one other history
+  pub lent : FromC part one other history
 
 pub record AdvisedFromC (part : Part) (one other : Images) (history : List Move) : Type 0 where
   pub advised : Advised part one other history
-  pub lent : FromC one other history
+  pub lent : FromC part one other history
 
 pub record UntilStruckFromC (part : Part) (one other : Images) (history : List Move) : Type 0 where
   pub until : UntilStruck part one other history
-  pub lent : FromC one other history
+  pub lent : FromC part one other history
 
 -- ---- what is claimed
 

@@ -33,7 +33,7 @@ use Rattle.claims_restarts.specs.Moves.{Move, Start, Send, Cut, Now, Off
 
 -- a start, with this fuse; the record areas differ
 abbrev pub starts : ℕ → Move
-starts fuse = Start (record { fuse = fuse; oneRecord = replicate recordSize 0; otherRecord = replicate recordSize 0xFF })
+starts fuse = Start (record { fuse = fuse; oneRecord = replicate (recordSize mspm0) 0; otherRecord = replicate (recordSize mspm0) 0xFF })
 
 -- calls one after the other
 abbrev pub calls : List Sending → List Move → List Move

@@ -1,5 +1,6 @@
 -- Replies: their sizes, and that their pieces join.
 use mathlib.Core.Path.{_≡_, refl, ap, _∙_}
+use mathlib.Core.Bool.{true, false}
 use mathlib.Core.List.{List, [], _∷_, _++_}
 use Prim.Native.Nat.{ℕ, suc, _+_, _-_, _/_, _%_, _≤_}
 use native.Mathlib.Omega.{arith}
@@ -8,7 +9,7 @@ use lib.Dec.{ltb}
 use lib.ListN.{length, take, drop, length-append}
 use lib.Seq.{sets, take-at}
 use Rattle.octets.specs.Choice.{pick}
-use Rattle.octets.specs.Number.{bytesOf}
+use Rattle.octets.specs.Number.{bytesOf, numberAt}
 use Rattle.octets.proofs.Searching.{by-pick}
 use Rattle.octets.proofs.StoreLaws.{sets-join, stored-front}
 use Rattle.checksum.specs.Checksum.{checksumOf}
@@ -77,7 +78,8 @@ unfolding replyBytes infoOf bytesOf
 reply-fits Silence beside h = omega arith
 reply-fits (Acknowledged code) beside h = omega arith
 reply-fits (Message code) beside h = omega (arith, length-core-reply messageReply (code ∷ []))
-reply-fits (Info version bcr bsl) beside h = omega (arith, length-core-reply infoReply (infoOf version bcr bsl))
+reply-fits (Info false bcr bsl) beside h = omega (arith, length-core-reply infoReply (infoOf 4 (numberAt 0 4 beside) bcr bsl))
+reply-fits (Info true bcr bsl) beside h = omega (arith, length-core-reply infoReply (infoOf 8 (numberAt 0 8 beside) bcr bsl))
 reply-fits Bytes beside h = omega (arith, length-core-reply readBackReply beside)
 reply-fits (Sum sum) beside h = omega (arith, length-core-reply verifyReply (bytesOf 4 sum))
 reply-fits FlashError beside h = omega (arith, length-core-reply detailedErrorReply (flashError ∷ noDetail ∷ noDetail ∷ []))

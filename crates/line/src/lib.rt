@@ -5,6 +5,7 @@ mod commands;
 mod replies;
 
 pub use acknowledgement::acknowledge;
+pub use acknowledgement::is_rate;
 pub use commands::read_command;
 pub use replies::write_reply;
 
@@ -64,13 +65,14 @@ pub enum Command {
     Unknown,
 }
 
-// What is sent back; the bytes of Read back stand beside it. The last is the one Detailed Error there is.
+// What is sent back; the bytes of Read back and the version that Info tells stand beside it. Info is long on a part whose version has eight bytes.
+// FlashError is the one Detailed Error there is.
 pub enum Reply {
     Silence,
     Acknowledged(u8),
     Message(u8),
     Info {
-        version: u32,
+        long: bool,
         bcr_id: u32,
         bsl_id: u32,
     },

@@ -4,7 +4,8 @@ ghost use mathlib.Core.List.{[], _∷_};
 ghost use Prim.Native.Nat.{_+_, _≤_};
 ghost use lib.ListN.{length};
 ghost use lib.Seq.{sets};
-ghost use Rattle.octets.specs.Number.{bytesOf};
+ghost use Rattle.octets.specs.Number.{bytesOf, numberAt};
+ghost use Rattle.line.specs.declared.Reply.the-variants.{Info};
 ghost use Rattle.line.specs.Replies.{coreReply, infoOf, replyBytes, sent, sentOf};
 use crate::Reply;
 use crate::codes;
@@ -61,15 +62,39 @@ fn write_acknowledgement(code: u8, area: &mut [u8]) -> usize
     1
 }
 
-// What the device tells of itself: 0x0100, 0x0100, a version, 0x0001, 0x06C0, 0x20000160, two ids. The zeros are filled in.
-fn info_of(version: u32, bcr_id: u32, bsl_id: u32) -> [u8; 24]
-    ensures { λ r. ⌜ r ≡ infoOf version «bcr_id» «bsl_id» ⌝ }
+// What the device tells of itself: 0x0100, 0x0100, a version, 0x0001, 0x06C0, 0x20000160, two ids. The zeros are filled in. The version's bytes
+// are those that some begin with; what is not there counts as 0.
+fn info_of(version: &[u8], bcr_id: u32, bsl_id: u32) -> [u8; 24]
+    ensures { λ r. ⌜ r ≡ infoOf 4 (numberAt 0 4 (now (version .entry))) «bcr_id» «bsl_id» ⌝ }
 {
     let mut info = *b"\x00\x01\x00\x01\0\0\0\0\x01\x00\xC0\x06\x60\x01\x00\x20\0\0\0\0\0\0\0\0";
-    octets::put_number(&mut info, 4, 4, version);
+    octets::put_number(&mut info, 4, 4, octets::number32_at(version, 0));
     octets::put_number(&mut info, 16, 4, bcr_id);
     octets::put_number(&mut info, 20, 4, bsl_id);
     info
+}
+
+// The same with a version of eight bytes.
+fn long_info_of(version: &[u8], bcr_id: u32, bsl_id: u32) -> [u8; 28]
+    ensures { λ r. ⌜ r ≡ infoOf 8 (numberAt 0 8 (now (version .entry))) «bcr_id» «bsl_id» ⌝ }
+{
+    let mut info =
+        *b"\x00\x01\x00\x01\0\0\0\0\0\0\0\0\x01\x00\xC0\x06\x60\x01\x00\x20\0\0\0\0\0\0\0\0";
+    octets::put_number(&mut info, 4, 4, octets::number32_at(version, 0));
+    octets::put_number(&mut info, 8, 4, octets::number32_at(version, 4));
+    octets::put_number(&mut info, 20, 4, bcr_id);
+    octets::put_number(&mut info, 24, 4, bsl_id);
+    info
+}
+
+fn write_info(long: bool, version: &[u8], bcr_id: u32, bsl_id: u32, area: &mut [u8]) -> usize
+    ensures { λ r. ⌜ sent r (now (area .exit)) ≡ sentOf (replyBytes (Info long «bcr_id» «bsl_id») (now (version .entry))) (now (area .entry)) ⌝ }
+{
+    if long {
+        let info = long_info_of(version, bcr_id, bsl_id);
+        return write_core_reply(codes::INFO_REPLY, &info, area);
+    }
+    write_core_reply(codes::INFO_REPLY, &info_of(version, bcr_id, bsl_id), area)
 }
 
 fn bytes_of(number: u32) -> [u8; 4]
@@ -90,10 +115,10 @@ pub fn write_reply(reply: Reply, bytes: &[u8], area: &mut [u8]) -> usize
         Reply::Acknowledged(code) => write_acknowledgement(code, area),
         Reply::Message(code) => write_core_reply(codes::MESSAGE_REPLY, &[code], area),
         Reply::Info {
-            version,
+            long,
             bcr_id,
             bsl_id,
-        } => write_core_reply(codes::INFO_REPLY, &info_of(version, bcr_id, bsl_id), area),
+        } => write_info(long, bytes, bcr_id, bsl_id, area),
         Reply::Bytes => write_core_reply(codes::READ_BACK_REPLY, bytes, area),
         Reply::Sum(sum) => write_core_reply(codes::VERIFY_REPLY, &bytes_of(sum), area),
         Reply::FlashError => write_core_reply(

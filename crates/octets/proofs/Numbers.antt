@@ -1,6 +1,6 @@
 -- A number and its bytes give each other back.
 use mathlib.Core.Path.{_≡_, refl, ap, ap₂, _∙_}
-use mathlib.Core.List.{List, [], _∷_}
+use mathlib.Core.List.{List, [], _∷_, _++_}
 use Prim.Native.Nat.{ℕ, zero, suc, _+_, _-_, _*_, _/_, _%_, _^_, _<_, _≤_}
 use native.Mathlib.Nat.{pow-suc, div-lt-iff-lt-mul, mod-lt, zero-lt-suc}
 use native.Mathlib.Numerals.{add-one, add-two}
@@ -79,3 +79,30 @@ unfolding bytesOf
 each-bytesOf zero number k = omega arith
 each-bytesOf (suc width) number zero = mod-lt number (zero-lt-suc 255)
 each-bytesOf (suc width) number (suc k) = each-bytesOf width (number / 256) k
+
+-- eight bytes are those of the low half, and then those of the high half
+pub eight-of-halves : (low high : ℕ) → low < 4294967296 → bytesOf 8 (low + 4294967296 * high) ≡ bytesOf 4 low ++ bytesOf 4 high
+unfolding bytesOf
+eight-of-halves low high h =
+    let first : (low + 4294967296 * high) / 256 ≡ low / 256 + 16777216 * high = omega arith in
+    let second : (low / 256 + 16777216 * high) / 256 ≡ low / 256 / 256 + 65536 * high = omega arith in
+    let third : (low / 256 / 256 + 65536 * high) / 256 ≡ low / 256 / 256 / 256 + 256 * high = omega arith in
+    let fourth : (low / 256 / 256 / 256 + 256 * high) / 256 ≡ high = omega arith in
+    let one : (low + 4294967296 * high) % 256 ≡ low % 256 = omega arith in
+    let two : (low / 256 + 16777216 * high) % 256 ≡ low / 256 % 256 = omega arith in
+    let three : (low / 256 / 256 + 65536 * high) % 256 ≡ low / 256 / 256 % 256 = omega arith in
+    let four : (low / 256 / 256 / 256 + 256 * high) % 256 ≡ low / 256 / 256 / 256 % 256 = omega arith in
+    rw (first, second, third, fourth, one, two, three, four)
+
+-- and the number of the first eight is that of two fours
+pub two-fours : (bytes : List ℕ) → numberAt 0 8 bytes ≡ numberAt 0 4 bytes + 4294967296 * numberAt 4 4 bytes
+unfolding numberOf
+two-fours [] = refl
+two-fours (a ∷ []) = omega arith
+two-fours (a ∷ b ∷ []) = omega arith
+two-fours (a ∷ b ∷ c ∷ []) = omega arith
+two-fours (a ∷ b ∷ c ∷ d ∷ []) = omega arith
+two-fours (a ∷ b ∷ c ∷ d ∷ e ∷ []) = omega arith
+two-fours (a ∷ b ∷ c ∷ d ∷ e ∷ f ∷ []) = omega arith
+two-fours (a ∷ b ∷ c ∷ d ∷ e ∷ f ∷ g ∷ []) = omega arith
+two-fours (a ∷ b ∷ c ∷ d ∷ e ∷ f ∷ g ∷ h ∷ bytes) = omega arith

@@ -1,5 +1,6 @@
 -- The numbers of a part, each with its sentence of 01, or of a request.
 use mathlib.Core.Path.{_≡_}
+use mathlib.Core.Bool.{Bool, true, false}
 use Prim.Native.Nat.{ℕ, _+_, _%_, _^_, _≤_, _<_}
 use Rattle.parts.specs.declared.Part.{Part}
 
@@ -21,12 +22,41 @@ mspm0 = record {
   «least_verify» = 1024;
   -- 0x52 Rate: "Rates for 1..9"
   «last_rate» = 9;
+  -- 0x19 Info: "version (4)"
+  «long_version» = false;
 }
 
--- what the theorems use of a part: a version's four bytes stand in one sector, the rate id at start is a rate, and MAIN's size has four bytes
+-- T-10: "Our larger shelf uses the part of source document 000."
+abbrev pub am13e230x : Part
+am13e230x = record {
+  -- "Sectors are 2,048 bytes"
+  «sector_size» = 2048;
+  -- "Program wants multiples of 16", "The word of T-02 and T-06 is 16 bytes here"
+  «word_size» = 16;
+  -- "MAIN is 2,048 bytes to 512 KiB, a multiple of 2,048."
+  «most_main» = 524288;
+  -- "settings are one such sector at 0x60100800"
+  «settings_start» = 0x60100800;
+  «settings_size» = 2048;
+  -- "there is no window of T-05": one of 0 bytes, which holds no range of a byte or more
+  «window_start» = 0x20000160;
+  «window_size» = 0;
+  -- "Verify takes 2,048 to 524,288 bytes"
+  «least_verify» = 2048;
+  -- "rate id 0x10 means 4000000"
+  «last_rate» = 0x10;
+  -- "the version has 8 bytes at a multiple of 8"
+  «long_version» = true;
+}
+
+-- 0x19 Info: "version (4)"; T-10: "the version has 8 bytes"
+abbrev pub versionSize : Bool → ℕ
+versionSize false = 4
+versionSize true = 8
+
+-- what the theorems use of a part: a version's bytes stand in one sector, and MAIN's size has four bytes
 pub record Sound (part : Part) : Type 0 where
-  -- 0x19 Info: "the four MAIN bytes at the pointer if it is a multiple of 4"
-  pub version : (pointer : ℕ) → pointer % 4 ≡ 0 → pointer % part .«sector_size» + 4 ≤ part .«sector_size»
-  -- "Start gives detect, idle 0, sleep 0, wrong count 0, rate id 2."
-  pub start : 2 ≤ part .«last_rate»
+  -- 0x19 Info: "the four MAIN bytes at the pointer if it is a multiple of 4"; T-10: "8 bytes at a multiple of 8"
+  pub version : (pointer : ℕ) → pointer % versionSize (part .«long_version») ≡ 0
+      → pointer % part .«sector_size» + versionSize (part .«long_version») ≤ part .«sector_size»
   pub main : part .«most_main» < 256 ^ 4

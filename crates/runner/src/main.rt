@@ -4,13 +4,11 @@ ghost use Prim.Native.Nat.{_<_};
 ghost use Rattle.session.specs.CallAnswers.{callNumbered};
 use libc::STDIN_FILENO;
 use libc::STDOUT_FILENO;
+use runner_text::LINE_SIZE;
 use runner_text::Script;
 use session::CallAnswer;
 use session::Session;
 use session_state::Standing;
-
-// The longest line: a number of three digits, a reply of 1,729 bytes, three characters each, and the line's end.
-const LINE_SIZE: usize = 5191;
 
 fn print_line(number: u8, reply: &[u8]) {
     let mut line = [0u8; LINE_SIZE];

@@ -14,6 +14,9 @@ pub const SCRIPT_LIMIT: usize = 65536;
 
 pub(crate) const MOST_ENTRIES: u16 = 64;
 
+// The longest line: a number of three digits, a reply of 1,729 bytes, three characters each, and the line's end.
+pub const LINE_SIZE: usize = 5191;
+
 // What a script is: one that keeps the form, with so many entries, or one that breaks it.
 pub enum Script {
     Good { count: u8 },

@@ -7,7 +7,6 @@ use Rattle.octets.proofs.Searching.{pick-true, pick-both}
 use Rattle.parts.specs.declared.Part.{Part}
 use Rattle.session_state.specs.Phases.{isValid}
 use Rattle.settings.specs.Values.{isAllowed}
-use Rattle.settings.specs.Layout.{imageSize}
 use Rattle.flash.specs.Regions.{isMainSize}
 use Rattle.session.specs.declared.Session.{Session}
 use Rattle.session.specs.Records.{isRecord}
@@ -17,7 +16,7 @@ pub record Valid (part : Part) (session : Session) (mainLent settingsLent : ℕ)
   pub standing : isValid (part .«last_rate») (session .standing) ≡ true
   pub values : isAllowed (session .settings .shown) ≡ true
   pub mainSize : isMainSize part (session .«main_size») ≡ true
-  pub settings : settingsLent ≡ imageSize
+  pub settings : settingsLent ≡ part .«settings_size»
   pub main : mainLent ≡ session .«main_size»
 
 pub record-by-clauses : (part : Part) (session : Session) (mainLent settingsLent : ℕ)

@@ -6,7 +6,6 @@ use Rattle.octets.specs.Choice.{pick}
 use Rattle.parts.specs.declared.Part.{Part}
 use Rattle.session_state.specs.Phases.{isValid}
 use Rattle.settings.specs.Values.{isAllowed}
-use Rattle.settings.specs.Layout.{imageSize}
 use Rattle.flash.specs.Regions.{isMainSize}
 use Rattle.session.specs.declared.Session.{Session}
 
@@ -17,7 +16,7 @@ unfoldable pub isRecord : Part → Session → ℕ → ℕ → Bool
 isRecord part session mainLent settingsLent =
     pick (isValid (part .«last_rate») (session .standing))
     (pick (isAllowed (session .settings .shown))
-    (pick (eqb settingsLent imageSize)
+    (pick (eqb settingsLent (part .«settings_size»))
     (pick (isMainSize part (session .«main_size»)) (eqb mainLent (session .«main_size»)) false)
     false)
     false)

@@ -6,15 +6,15 @@ mod starting;
 
 pub use calling::call;
 use session_state::Standing;
+use settings::Kept;
 use settings::Refusal;
-use settings::Settings;
 pub use starting::start;
 
 // The session record: how the session stands, the size of MAIN, and the settings as they were at start.
 pub struct Session {
     pub standing: Standing,
     pub main_size: u32,
-    pub settings: Settings,
+    pub settings: Kept,
 }
 
 // What start answers.

@@ -15,7 +15,7 @@ pub(crate) fn is_record(part: Part, session: Session, main_size: usize, image_si
     if !settings::are_allowed(settings.shown) {
         return false;
     }
-    if image_size != settings::IMAGE_SIZE {
+    if image_size != part.settings_size as usize {
         return false;
     }
     let own_size = session.main_size as usize;

@@ -3,7 +3,7 @@ ghost use mathlib.Core.Path.{_≡_};
 ghost use Rattle.session_state.specs.Phases.{atStart};
 ghost use Rattle.settings.specs.Answers.{settingsTold};
 ghost use Rattle.session.specs.StartAnswers.{startNumbered, startTold};
-ghost use Rattle.session.specs.Starting.{sessionOf, startRead, startOf, startRefused};
+ghost use Rattle.session.specs.Starting.{sessionOf, startRead, settingsRead, startOf, startRefused};
 use crate::Session;
 use crate::StartAnswer;
 use crate::Started;
@@ -11,9 +11,9 @@ use parts::Part;
 use session_state::Phase;
 use session_state::RATE_ID_AT_START;
 use session_state::Standing;
+use settings::Kept;
 use settings::ReadAnswer;
 use settings::Refusal;
-use settings::Settings;
 use settings::SettingsReading;
 
 // How a session stands at start.
@@ -30,7 +30,7 @@ fn at_start() -> Standing
 }
 
 // The session of a board with this size of MAIN and these settings.
-fn session_of(main_size: u32, settings: Settings) -> Session
+fn session_of(main_size: u32, settings: Kept) -> Session
     ensures { λ r. ⌜ r ≡ sessionOf «main_size» settings ⌝ }
 {
     Session {
@@ -43,8 +43,18 @@ fn session_of(main_size: u32, settings: Settings) -> Session
 fn refused(answer: StartAnswer) -> Started
     ensures { λ r. ⌜ startTold r ≡ startRefused (startNumbered answer .number) (startNumbered answer .entry) ⌝ }
 {
-    let session = session_of(0, settings::none());
+    let session = session_of(0, settings::none_kept());
     Started { answer, session }
+}
+
+// What is read of an image, by its size: one of 2,048 bytes is the larger part's.
+fn read_image(image: &[u8]) -> SettingsReading
+    ensures { λ r. ⌜ settingsTold r ≡ settingsRead (now (image .entry)) ⌝ }
+{
+    if image.len() == settings_large::IMAGE_SIZE {
+        return settings_large::read_settings(image);
+    }
+    settings::read_settings(image)
 }
 
 // The session of settings that were read, if they were.
@@ -72,11 +82,11 @@ pub fn start(part: Part, fuse: bool, main: &[u8], image: &[u8], window: &[u8]) -
     if !flash::is_main_size(part, size) {
         return refused(StartAnswer::MainSizeWrong);
     }
-    if image.len() != settings::IMAGE_SIZE {
+    if image.len() != part.settings_size as usize {
         return refused(StartAnswer::ImageRefused(Refusal::SizeWrong));
     }
     if window.len() != part.window_size as usize {
         return refused(StartAnswer::WindowSizeWrong);
     }
-    start_read(size as u32, settings::read_settings(image))
+    start_read(size as u32, read_image(image))
 }

@@ -1,10 +1,12 @@
 -- What a plan can be, and that no reply depends on memory after the order.
 use mathlib.Core.Path.{_≡_, refl, ap}
-use mathlib.Core.Bool.{Bool}
+use mathlib.Core.Bool.{Bool, true, false}
 use mathlib.Core.List.{List}
-use Prim.Native.Nat.{ℕ, _+_, _-_, _≤_}
+use Prim.Native.Nat.{ℕ, _+_, _-_, _%_, _≤_}
+use native.Mathlib.Omega.{arith}
 use borrow.Author.Tests.{ltb-false}
-use lib.Dec.{ltb, eqb}
+use lib.Dec.{ltb, leb, eqb}
+use lib.ListN.{length}
 use Rattle.octets.proofs.Searching.{by-pick}
 use Rattle.parts.specs.declared.Part.{Part}
 use Rattle.line.specs.declared.Guarded.{Guarded}
@@ -25,6 +27,7 @@ use Rattle.session_act.specs.declared.Order.the-variants.{Keep}
 use Rattle.session_act.specs.declared.Planned.{Planned}
 use Rattle.session_act.specs.Orders.{carriedOut}
 use Rattle.session_act.specs.Plans.{planned}
+use Rattle.session_act.specs.Info.{withVersion, infoPlanned}
 use Rattle.session_act.specs.Erasing.{rangeEraseIn, rangeErase, modeOff, modeWithPassword, lacksResetPassword, factoryReset}
 use Rattle.session_act.specs.Programming.{isOutside, isWindow, isAligned, writtenIn, programAt}
 use Rattle.session_act.specs.Showing.{readoutOn, readBackAt}
@@ -33,7 +36,18 @@ use Rattle.session_act.specs.Acting.{taskPlanned, planOf}
 -- ---- a plan shows no byte of memory, or it keeps memory
 
 module _ (P : Planned → Type 0) (shows-none : (reply : Reply) (order : Order) → P (planned reply order Outside 0 0))
-    (keeps : (region : Region) (offset size : ℕ) → size ≤ readBackMost → P (planned Bytes Keep region offset size)) where
+    (keeps : (reply : Reply) (region : Region) (offset size : ℕ) → size ≤ readBackMost → P (planned reply Keep region offset size)) where
+  with-version : (size pointer mainSize : ℕ) (reply : Reply) → size ≤ readBackMost → P (withVersion size pointer mainSize reply)
+  unfolding withVersion
+  with-version size pointer mainSize reply few =
+      by-pick P (eqb (pointer % size) 0) _ _
+      (λ y. by-pick P (leb (pointer + size) mainSize) _ _ (λ t. keeps reply Main pointer size few) (λ n. shows-none _ _))
+      (λ n. shows-none _ _)
+
+  tell-info : (long : Bool) (shown : Shown) (mainSize : ℕ) → P (infoPlanned long shown mainSize)
+  tell-info false shown mainSize = with-version 4 _ mainSize _ (omega arith)
+  tell-info true shown mainSize = with-version 8 _ mainSize _ (omega arith)
+
   erase-in : (start end : ℕ) (protected : Bool) (region : Region) → P (rangeEraseIn start end protected region)
   erase-in start end protected Main = by-pick P protected _ _ (λ y. shows-none _ _) (λ n. shows-none _ _)
   erase-in start end protected Settings = shows-none _ _
@@ -63,7 +77,7 @@ module _ (P : Planned → Type 0) (shows-none : (reply : Reply) (order : Order) 
       by-pick P (eqb readout readoutOn) _ _
       (λ on. by-pick P (eqb size 0) _ _ (λ y. shows-none _ _)
       (λ some. by-pick P (ltb readBackMost size) _ _ (λ y. shows-none _ _)
-      (λ few. by-pick P (isOutside (place .region)) _ _ (λ y. shows-none _ _) (λ n. keeps (place .region) (place .offset) size (ltb-false readBackMost size few)))))
+      (λ few. by-pick P (isOutside (place .region)) _ _ (λ y. shows-none _ _) (λ n. keeps Bytes (place .region) (place .offset) size (ltb-false readBackMost size few)))))
       (λ off. shows-none _ _)
 
   reset : (mode : ℕ) (with right : Bool) → P (factoryReset mode with right)
@@ -88,10 +102,10 @@ module _ (P : Planned → Type 0) (shows-none : (reply : Reply) (order : Order) 
     every-task (guarded.FactoryReset with) = reset (shown .«reset_mode») with right
     every-task guarded.WrongLength = shows-none _ _
 
-    -- what holds of an answer without bytes, whatever is ordered, and of so many bytes beside no order holds of every plan
+    -- what holds of an answer without bytes, whatever is ordered, and of any with so many bytes beside no order holds of every plan
     pub every-plan : (effect : Effect) → P (planOf part mainSize shown protection right memory effect)
     every-plan (Say reply) = shows-none _ _
-    every-plan TellInfo = shows-none _ _
+    every-plan TellInfo = tell-info (part .«long_version») shown (length (memory .main))
     every-plan Strike = shows-none _ _
     every-plan (Perform task) = every-task task
 
@@ -116,7 +130,7 @@ module _ (part : Part) (shown : Shown) (protection packet : List ℕ) (before : 
   pub bytes-need-no-order : bytesBeside after plans ≡ bytesBeside before plans
   bytes-need-no-order =
       every-plan (λ planned. bytesBeside (carriedOut part shown protection packet before (planned .order)) planned ≡ bytesBeside before planned)
-      (λ reply order. refl) (λ region offset size few. refl) part mainSize shown protection right before effect
+      (λ reply order. refl) (λ reply region offset size few. refl) part mainSize shown protection right before effect
 
   -- so a reply can be written before its order is carried out, as a device does that hands the order to a driver
   pub replies-need-no-order : repliedBy after plans ≡ repliedBy before plans

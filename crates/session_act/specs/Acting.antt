@@ -2,6 +2,7 @@
 use Prim.Native.Nat.{ℕ}
 use mathlib.Core.Bool.{Bool}
 use mathlib.Core.List.{List}
+use lib.ListN.{length}
 use Rattle.parts.specs.declared.Part.{Part}
 use Rattle.line.specs.Codes as codes
 use Rattle.line.specs.declared.Guarded.{Guarded}
@@ -11,7 +12,7 @@ use Rattle.session_judge.specs.declared.Effect.the-variants.{Say, TellInfo, Str
 use Rattle.settings.specs.declared.Shown.{Shown}
 use Rattle.flash.specs.Memory.{Memory}
 use Rattle.session_act.specs.declared.Planned.{Planned}
-use Rattle.session_act.specs.Info.{infoTold}
+use Rattle.session_act.specs.Info.{infoPlanned}
 use Rattle.session_act.specs.Board.{Acted, acted, Board}
 use Rattle.session_act.specs.Orders.{carriedOut}
 use Rattle.session_act.specs.Plans.{says, tells}
@@ -36,7 +37,7 @@ taskPlanned part mainSize shown protection right memory guarded.WrongLength = te
 -- what was decided is planned; the bit is whether the packet carries the reset password
 abbrev pub planOf : Part → ℕ → Shown → List ℕ → Bool → Memory → Effect → Planned
 planOf part mainSize shown protection right memory (Say reply) = says reply
-planOf part mainSize shown protection right memory TellInfo = says (infoTold shown (memory .main))
+planOf part mainSize shown protection right memory TellInfo = infoPlanned (part .«long_version») shown (length (memory .main))
 planOf part mainSize shown protection right memory Strike = struck
 planOf part mainSize shown protection right memory (Perform task) = taskPlanned part mainSize shown protection right memory task
 

@@ -24,7 +24,8 @@ pub enum Order {
     StoreWindow { offset: usize, size: u32 },
 }
 
-// What is answered, what is to be done, and where the bytes stand that go with the answer, and how many: none but for Read back.
+// What is answered, what is to be done, and where the bytes stand that go with the answer, and how many: none but for Read back, and for
+// the version that Info tells.
 pub struct Planned {
     pub reply: Reply,
     pub order: Order,

@@ -97,7 +97,7 @@ pub fn plan<'a>(
 {
     match effect {
         Effect::Say(reply) => plans::says(reply),
-        Effect::TellInfo => plans::says(telling::info(shown, main)),
+        Effect::TellInfo => telling::info(part.long_version, shown, main.len()),
         Effect::Strike => plans::orders(codes::ALERT_TAKEN, Order::EraseBoth),
         Effect::Perform(task) => plan_task(
             part,

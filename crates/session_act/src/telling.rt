@@ -1,31 +1,43 @@
 // What Info tells of the board: the version, and the two ids.
 ghost use mathlib.Core.Path.{_≡_};
-ghost use Rattle.session_act.specs.Info.{versionAt, infoTold};
+ghost use Rattle.parts.specs.Parts.{versionSize};
+ghost use Rattle.session_act.specs.Info.{infoPlanned};
+use crate::Order;
+use crate::Planned;
+use crate::plans;
+use flash::Region;
 use line::Reply;
 use settings::Shown;
 
-const VERSION_SIZE: u32 = 4;
-
-// The version that the pointer leads to, or 0. The sum is of 64 bits, so it does not wrap.
-fn version_at(pointer: u32, main: &[u8]) -> u32
-    ensures { λ r. ⌜ r ≡ versionAt pointer (now (main .entry)) ⌝ }
+fn version_size(long: bool) -> u32
+    ensures { λ r. ⌜ r ≡ versionSize long ⌝ }
 {
-    if pointer % VERSION_SIZE != 0 {
-        return 0;
-    }
-    if pointer as u64 + VERSION_SIZE as u64 <= main.len() as u64 {
-        return octets::number32_at(main, pointer as usize);
-    }
-    0
+    if long { 8 } else { 4 }
 }
 
-// The version is read in MAIN; all else is among the settings that may be shown.
-pub(crate) fn info(shown: Shown, main: &[u8]) -> Reply
-    ensures { λ r. ⌜ r ≡ infoTold shown (now (main .entry)) ⌝ }
+// The version stands beside the answer, or nothing does where its pointer leads to none; all else is among the settings that may be shown.
+// The sum is of 64 bits, so it does not wrap.
+pub(crate) fn info(long: bool, shown: Shown, main_size: usize) -> Planned
+    ensures { λ r. ⌜ r ≡ infoPlanned long shown «main_size» ⌝ }
 {
-    Reply::Info {
-        version: version_at(shown.version_pointer, main),
+    let pointer = shown.version_pointer;
+    let size = version_size(long);
+    let reply = Reply::Info {
+        long,
         bcr_id: shown.bcr_id,
         bsl_id: shown.bsl_id,
+    };
+    if pointer % size != 0 {
+        return plans::says(reply);
+    }
+    if (main_size as u64) < pointer as u64 + size as u64 {
+        return plans::says(reply);
+    }
+    Planned {
+        reply,
+        order: Order::Keep,
+        region: Region::Main,
+        offset: pointer as usize,
+        count: size,
     }
 }

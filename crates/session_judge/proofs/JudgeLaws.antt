@@ -12,7 +12,7 @@ use Rattle.session_state.specs.declared.Phase.{Phase}
 use Rattle.session_state.specs.declared.Phase.the-variants.{Detect, Command, Standby, Ended, Disabled}
 use Rattle.session_state.specs.declared.Standing.{Standing}
 use Rattle.session_state.specs.declared.Passed.{Passed}
-use Rattle.session_state.specs.Phases.{rateIdAtStart, mostWrong, isUnlocked, isValid}
+use Rattle.session_state.specs.Phases.{mostWrong, isUnlocked, isValid}
 use Rattle.session_state.specs.Waits.{movedTo, dropped, passTimeIn, passTime}
 use Rattle.session_state.proofs.PhaseLaws.{Valid, valid-by-parts, parts-make-valid}
 use Rattle.session_state.proofs.WaitLaws.{time-keeps-valid, time-keeps-counts-and-rate, time-never-unlocks, long-wait-is-heard}
@@ -39,9 +39,9 @@ module _ (lastRate : ℕ) (standing : Standing) (alert wait : ℕ) (packet : Lis
   -- ---- what every packet keeps
 
   -- no packet leaves a record that the next call refuses
-  pub judge-keeps-valid : rateIdAtStart ≤ lastRate → isValid lastRate standing ≡ true → isValid lastRate (judgedOf lastRate standing alert wait packet right .standing) ≡ true
+  pub judge-keeps-valid : isValid lastRate standing ≡ true → isValid lastRate (judgedOf lastRate standing alert wait packet right .standing) ≡ true
   unfolding pick
-  judge-keeps-valid two h =
+  judge-keeps-valid h =
       let v = valid-by-parts lastRate _ (time-keeps-valid lastRate standing wait h) in
       judged-by-outcome lastRate (λ j. isValid lastRate (j .standing) ≡ true) alert right standing wait packet
       (parts-make-valid lastRate _ (record { idle = omega arith; wrong = v .wrong; tries = v .tries; most = v .most; rate = v .rate; phase = refl }))
@@ -55,10 +55,10 @@ module _ (lastRate : ℕ) (standing : Standing) (alert wait : ℕ) (packet : Lis
         ended = parts-make-valid lastRate _ (record { idle = k .idle; wrong = k .wrong; tries = k .tries; most = k .most; rate = k .rate; phase = refl });
         rated = λ id known. parts-make-valid lastRate _ (record { idle = k .idle; wrong = k .wrong; tries = k .tries; most = k .most; rate = known; phase = k .phase });
         unlocked = λ y. parts-make-valid lastRate _ (record { idle = k .idle; wrong = omega arith; tries = omega arith; most = k .most; rate = k .rate; phase = refl });
-        wrong = λ n few. wrong-is-valid lastRate two _ asleep k refl;
-        struck = λ n third e. wrong-is-valid lastRate two _ asleep k refl;
-        disabled = λ n third e. wrong-is-valid lastRate two _ Disabled k refl;
-        warned = λ n third e. wrong-is-valid lastRate two _ asleep k refl;
+        wrong = λ n few. wrong-is-valid lastRate _ asleep k refl;
+        struck = λ n third e. wrong-is-valid lastRate _ asleep k refl;
+        disabled = λ n third e. wrong-is-valid lastRate _ Disabled k refl;
+        warned = λ n third e. wrong-is-valid lastRate _ asleep k refl;
       })
 
   -- a locked session stays locked while no packet carries its password

@@ -8,7 +8,7 @@ use lib.Dec.{ltb, leb}
 use Rattle.octets.proofs.Searching.{pick-true, pick-false, by-pick}
 use Rattle.session_state.specs.declared.Phase.{Phase}
 use Rattle.session_state.specs.declared.Standing.{Standing}
-use Rattle.session_state.specs.Phases.{rateIdAtStart, mostWrong, mostTries, isValidPhase, isValid}
+use Rattle.session_state.specs.Phases.{mostWrong, mostTries, isValidPhase, isValid}
 use Rattle.session_state.proofs.PhaseLaws.{Valid, parts-make-valid, start-is-rate}
 use Rattle.session_judge.specs.Unlocking.{countedUp, triedOnce, afterWrong}
 
@@ -46,15 +46,15 @@ tries-cover wrong tries few h =
     (λ n. by-pick (λ (n : ℕ). n ≤ tries + 1) (ltb wrong mostWrong) _ _ (λ y. omega arith) (λ n. omega (arith, ltb-false wrong mostWrong n)))
 
 -- a valid standing stays valid, in any phase that is
-pub wrong-is-valid : (lastRate : ℕ) → rateIdAtStart ≤ lastRate → (standing : Standing) (phase : Phase) → Valid lastRate standing
+pub wrong-is-valid : (lastRate : ℕ) (standing : Standing) (phase : Phase) → Valid lastRate standing
     → isValidPhase phase ≡ true → isValid lastRate (afterWrong standing phase) ≡ true
-wrong-is-valid lastRate two standing phase v p =
+wrong-is-valid lastRate standing phase v p =
     parts-make-valid lastRate (afterWrong standing phase)
     (record {
       idle = v .idle;
       wrong = counted-up (standing .wrong) .1;
       tries = tries-cover (standing .wrong) (standing .tries) (v .wrong) (v .tries);
       most = tried-once (standing .tries) .1 (v .most);
-      rate = start-is-rate lastRate two;
+      rate = start-is-rate lastRate;
       phase = p;
     })

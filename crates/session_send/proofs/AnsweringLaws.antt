@@ -28,7 +28,7 @@ module _ (packet : List ℕ) where
       one-byte Silence = omega arith
       one-byte (Acknowledged code) = omega arith
       one-byte (Message code) = omega arith
-      one-byte (Info version bcr bsl) = omega arith
+      one-byte (Info long bcr bsl) = omega arith
       one-byte Bytes = omega arith
       one-byte (Sum sum) = omega arith
       one-byte FlashError = omega arith

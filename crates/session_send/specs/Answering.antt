@@ -15,7 +15,7 @@ abbrev pub withoutCore : Reply → Reply
 withoutCore Silence = Silence
 withoutCore (Acknowledged code) = Acknowledged code
 withoutCore (Message code) = Acknowledged codes.acknowledged
-withoutCore (Info version bcr bsl) = Acknowledged codes.acknowledged
+withoutCore (Info long bcr bsl) = Acknowledged codes.acknowledged
 withoutCore Bytes = Acknowledged codes.acknowledged
 withoutCore (Sum sum) = Acknowledged codes.acknowledged
 withoutCore FlashError = Acknowledged codes.acknowledged
@@ -24,7 +24,7 @@ withoutCore FlashError = Acknowledged codes.acknowledged
 unfoldable pub hushed : List ℕ → Reply → Reply
 hushed packet reply = pick (isSilent packet) (withoutCore reply) reply
 
--- "Core replies follow the 0x00"; Read back: "30 and the bytes", which stand at a place of memory; "A reply area has at least 1,729 bytes; those past
--- the reply stay as lent."
+-- "Core replies follow the 0x00"; Read back: "30 and the bytes", which stand at a place of memory, as the version does;
+-- "A reply area has at least 1,729 bytes; those past the reply stay as lent."
 unfoldable pub answerOf : Reply → Region → ℕ → ℕ → List ℕ → Memory → List ℕ → Sent
 answerOf reply region offset count packet memory area = sentOf (replyBytes (hushed packet reply) (bytesIn offset count memory region)) area

@@ -18,7 +18,7 @@ fn without_core(reply: Reply) -> Reply
         Reply::Acknowledged(code) => Reply::Acknowledged(code),
         Reply::Message(_) => Reply::Acknowledged(codes::ACKNOWLEDGED),
         Reply::Info {
-            version: _,
+            long: _,
             bcr_id: _,
             bsl_id: _,
         } => Reply::Acknowledged(codes::ACKNOWLEDGED),

@@ -1,5 +1,5 @@
 -- What a valid standing is, part by part; a session starts in one.
-use mathlib.Core.Path.{_≡_, _∙_}
+use mathlib.Core.Path.{_≡_, refl, _∙_}
 use mathlib.Core.Bool.{true}
 use Prim.Native.Nat.{ℕ, _≤_}
 use borrow.Author.Tests.{le-leb, leb-true}
@@ -46,12 +46,12 @@ parts-make-valid lastRate standing v =
     pick-true _ _ (le-leb _ _ (v .idle))
     ∙ pick-true _ _ (counts-fit _ _ (v .wrong) (v .tries) (v .most)) ∙ pick-true _ _ (v .rate) ∙ v .phase
 
--- the rate id at start is a rate, where the part has two
-pub start-is-rate : (lastRate : ℕ) → rateIdAtStart ≤ lastRate → isRate lastRate rateIdAtStart ≡ true
+-- the rate id at start is a rate on every part
+pub start-is-rate : (lastRate : ℕ) → isRate lastRate rateIdAtStart ≡ true
 unfolding isRate pick
-start-is-rate lastRate h = le-leb rateIdAtStart lastRate h
+start-is-rate lastRate = refl
 
 -- a session that has just started is never refused for how it stands
-pub start-is-valid : (lastRate : ℕ) → rateIdAtStart ≤ lastRate → isValid lastRate atStart ≡ true
+pub start-is-valid : (lastRate : ℕ) → isValid lastRate atStart ≡ true
 unfolding atStart isValid countsFit pick
-start-is-valid lastRate h = pick-true _ _ (start-is-rate lastRate h)
+start-is-valid lastRate = pick-true _ _ (start-is-rate lastRate)

@@ -7,7 +7,6 @@ use crate::MOST_TRIES;
 use crate::MOST_WRONG;
 use crate::Phase;
 use crate::Standing;
-use line::codes;
 
 // Whether lock and sleep go together.
 fn is_valid_phase(phase: Phase) -> bool
@@ -50,10 +49,7 @@ pub fn is_valid(last_rate: u8, standing: Standing) -> bool
     if !counts_fit(standing.wrong, standing.tries) {
         return false;
     }
-    if standing.rate < codes::FIRST_RATE_ID {
-        return false;
-    }
-    if last_rate < standing.rate {
+    if !line::is_rate(last_rate, standing.rate) {
         return false;
     }
     let phase = standing.phase;

@@ -1,23 +1,26 @@
 -- Fields that were read: of the settings that they say, the same fields are made again.
 use mathlib.Core.Path.{_≡_, refl, sym, ap, ap₂, _∙_}
 use mathlib.Core.Bool.{true, false}
-use mathlib.Core.List.{List, [], _∷_, _++_}
+use mathlib.Core.List.{List, [], _∷_, _++_, append-assoc}
 use Prim.Native.Nat.{ℕ, _+_, _≤_, _<_}
 use native.Mathlib.Omega.{arith}
-use borrow.Author.Tests.{eq-eqb, eqb-true, not-false}
-use lib.ListN.{length, getD, take, drop, replicate, length-append}
+use borrow.Author.Tests.{eq-eqb, ne-eqb, eqb-true, not-false}
+use lib.ListN.{length, getD, take, drop, replicate, length-append, length-drop, length-replicate, take-append-drop}
 use lib.Seq.{take-all, drop-at, getD-take, getD-drop, getD-append-add}
 use Rattle.octets.specs.Number.{numberOf, bytesOf, part, numberAt}
 use Rattle.octets.proofs.Numbers.{bytes-of-number}
 use Rattle.octets.proofs.Parts.{length-part, parts-join, part-of-part, each-part, each-append, each-replicate}
-use Rattle.octets.proofs.Searching.{pick-true, pick-both}
+use Rattle.octets.proofs.Searching.{pick-true, pick-false, pick-both}
+use Rattle.octets.proofs.StoreLaws.{stored-front}
 use Rattle.settings.specs.declared.Form.{Form}
+use Rattle.settings.specs.declared.Settings.{Settings}
 use Rattle.settings.specs.Values.{isAllowed, noSettings}
 use Rattle.settings.specs.Layout.{form1, layoutOf, offsetOf, sumOf}
 use Rattle.settings.specs.declared.Form.the-variants.{One}
 use Rattle.settings.specs.Table.{bodiesAt, bodies-end}
-use Rattle.settings.specs.Bodies.{valuesOf, numbersOf, bodiesOf, shownIn, settingsIn}
+use Rattle.settings.specs.Bodies.{valuesOf, numbersOf, bodiesWith, bodiesOf, shownIn, settingsIn}
 use Rattle.settings.specs.Fields.{fieldsSize, fieldsRead}
+use Rattle.settings.specs.Kept.{filledUp, keptOf, noKept, keptSaid, keptRead, keptBodies}
 use Rattle.settings.specs.Reader.{valueNotAllowed}
 use Rattle.settings.proofs.BodyLaws.{bodies-begin, fields-there, zero-there}
 
@@ -42,7 +45,7 @@ module _ (image : List ℕ) (each : (k : ℕ) → getD image k 0 < 256) where
       ∙ bytes-of-number (part at width image) (each-part at width image each)
 
   module _ (size : 126 ≤ length image) where
-    values-made : getD (part 100 6 image) 5 0 ≡ 0 → valuesOf (shownIn form1 image) ≡ part 100 6 image
+    pub values-made : getD (part 100 6 image) 5 0 ≡ 0 → valuesOf (shownIn form1 image) ≡ part 100 6 image
     unfolding shownIn offsetOf sumOf
     values-made = values-again (part 100 6 image) (length-part 100 6 image (omega arith)) (each-part 100 6 image each)
 
@@ -69,8 +72,27 @@ module _ (image : List ℕ) (each : (k : ℕ) → getD image k 0 < 256) where
         ap₂ (λ (values numbers : List ℕ). part 52 32 image ++ (part 84 16 image ++ (values ++ (numbers ++ part 118 8 image)))) (values-made zero) numbers-made
         ∙ rw (parts-join 106 12 8 image, parts-join 100 6 20 image, parts-join 84 16 26 image, parts-join 52 32 42 image)
 
+-- the parts of the six bodies are all that there is
+parts-are-all : (fields : List ℕ) → part 0 32 fields ++ (part 32 16 fields ++ (part 48 6 fields ++ (part 54 12 fields ++ drop 66 fields))) ≡ fields
+parts-are-all fields =
+    let third : List ℕ = part 54 12 fields ++ drop 66 fields in
+    let second : List ℕ = part 48 6 fields ++ third in
+    sym (append-assoc (part 0 32 fields) (part 32 16 fields) second)
+    ∙ ap (λ (l : List ℕ). l ++ second) (parts-join 0 32 16 fields)
+    ∙ sym (append-assoc (part 0 48 fields) (part 48 6 fields) third)
+    ∙ ap (λ (l : List ℕ). l ++ third) (parts-join 0 48 6 fields)
+    ∙ sym (append-assoc (part 0 54 fields) (part 54 12 fields) (drop 66 fields))
+    ∙ ap (λ (l : List ℕ). l ++ drop 66 fields) (parts-join 0 54 12 fields) ∙ take-append-drop 66 fields
+
+-- what comes after the last of five comes after all
+pub after-five : (a b c d e rest : List ℕ) → a ++ (b ++ (c ++ (d ++ (e ++ rest)))) ≡ (a ++ (b ++ (c ++ (d ++ e)))) ++ rest
+after-five a b c d e rest =
+    ap (λ (l : List ℕ). a ++ (b ++ (c ++ l))) (sym (append-assoc d e rest))
+    ∙ ap (λ (l : List ℕ). a ++ (b ++ l)) (sym (append-assoc c (d ++ e) rest))
+    ∙ ap (λ (l : List ℕ). a ++ l) (sym (append-assoc b (c ++ (d ++ e)) rest)) ∙ sym (append-assoc a (b ++ (c ++ (d ++ e))) rest)
+
 -- fields after a table of zeros
-pub placed : List ℕ → List ℕ
+unfoldable pub placed : List ℕ → List ℕ
 placed fields = replicate 52 0 ++ fields
 
 module _ (fields : List ℕ) where
@@ -97,6 +119,38 @@ module _ (fields : List ℕ) where
       ∙ bodies-again (placed fields) (each-append (replicate 52 0) fields (each-replicate 52 0 (omega arith)) each)
       (omega (arith, length-append (replicate 52 0) fields)) (unused-at-53 ∙ zero)
       ∙ ap (take 74) from-52 ∙ take-all 74 fields (omega arith)
+
+  -- of what a session keeps of them the same bytes are made, and zeros after those of an MSPM0
+  module _ (each : (k : ℕ) → getD fields k 0 < 256) (zero : getD fields 53 0 ≡ 0) where
+    pub short-again : length fields ≡ 74 → keptBodies (keptRead fields) ≡ fields ++ replicate 24 0
+    unfolding keptRead keptBodies bodiesOf settingsIn placed offsetOf sumOf
+    short-again n =
+        let s = fieldsRead form1 fields in
+        let said = fields-said n in
+        let eight : length (s .protection) ≡ 8 =
+        ap (λ (settings : Settings). length (settings .protection)) said
+        ∙ length-part 118 8 (replicate 52 0 ++ fields) (omega (arith, length-append (replicate 52 0) fields)) in
+        let few : length (s .protection) ≤ length (replicate {A = ℕ} 32 0) = omega (arith, length-replicate {A = ℕ} 32 0) in
+        let filled : filledUp (s .protection) ≡ s .protection ++ replicate 24 0 =
+        stored-front (replicate 32 0) (s .protection) few ∙ ap (λ (size : ℕ). s .protection ++ drop size (replicate 32 0)) eight in
+        ap keptBodies (pick-true (keptOf s) _ (eq-eqb (length fields) 74 n))
+        ∙ ap (bodiesWith (s .password) (s .«reset_password») (s .shown)) filled
+        ∙ after-five (s .password) (s .«reset_password») (valuesOf (s .shown)) (numbersOf (s .shown)) (s .protection) (replicate 24 0)
+        ∙ ap (λ (l : List ℕ). l ++ replicate 24 0) (made-after-read n each zero)
+
+    pub long-again : length fields ≡ 98 → keptBodies (keptRead fields) ≡ fields
+    unfolding keptRead keptBodies placed
+    long-again n =
+        let image = replicate 52 0 ++ fields in
+        let bytes = each-append (replicate 52 0) fields (each-replicate 52 0 (omega arith)) each in
+        let long : 126 ≤ length image = omega (arith, length-append (replicate 52 0) fields) in
+        let last : part 66 32 fields ≡ drop 66 fields = take-all 32 (drop 66 fields) (omega (arith, length-drop 66 fields)) in
+        ap keptBodies
+        (pick-false (keptOf (fieldsRead form1 fields)) _ (ne-eqb (length fields) 74 (λ e. omega arith)) ∙ pick-true (keptSaid fields) noKept (eq-eqb (length fields) 98 n))
+        ∙ ap₂ (λ (values numbers : List ℕ). part 0 32 fields ++ (part 32 16 fields ++ (values ++ (numbers ++ part 66 32 fields))))
+        (values-made image bytes long (unused-at-53 ∙ zero)) (numbers-made image bytes long)
+        ∙ ap (λ (protection : List ℕ). part 0 32 fields ++ (part 32 16 fields ++ (part 48 6 fields ++ (part 54 12 fields ++ protection)))) last
+        ∙ parts-are-all fields
 
 -- an image of a form whose values and zero byte are allowed
 module _ (form : Form) (image : List ℕ) (size : length image ≡ 1024) (value : valueNotAllowed form image ≡ false) where

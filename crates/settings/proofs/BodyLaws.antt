@@ -4,20 +4,25 @@ use mathlib.Core.List.{List, _++_, append-nil, append-assoc}
 use Prim.Native.Nat.{ℕ, _+_, _-_, _≤_}
 use native.Mathlib.Omega.{arith}
 use borrow.Author.Tests.{eq-eqb}
+use lib.Dec.{eqb}
 use lib.ListN.{length, getD, drop, replicate, length-append, length-replicate}
 use lib.Seq.{sets, getD-take, getD-drop}
+use Rattle.octets.specs.Choice.{pick}
 use Rattle.octets.specs.Number.{bytesOf, part}
 use Rattle.octets.proofs.Parts.{length-part, part-of-part}
 use Rattle.octets.proofs.Searching.{pick-true}
 use Rattle.octets.proofs.StoreLaws.{sets-join, stored-whole}
+use Rattle.settings.specs.declared.Shown.{Shown}
 use Rattle.settings.specs.declared.Settings.{Settings}
+use Rattle.settings.specs.declared.Kept.{Kept}
 use Rattle.settings.specs.Values.{noSettings}
 use Rattle.settings.specs.declared.Form.{Form}
 use Rattle.settings.specs.declared.Form.the-variants.{One, Two}
 use Rattle.settings.specs.Layout.{form1, layoutOf, offsetOf, sumOf}
 use Rattle.settings.specs.Table.{bodiesAt, fillerAt, bodies-end}
-use Rattle.settings.specs.Bodies.{valuesOf, numbersOf, bodiesOf, nameBody, bodyIn, shownIn, settingsIn}
+use Rattle.settings.specs.Bodies.{valuesOf, numbersOf, bodiesWith, bodiesOf, nameBody, bodyIn, shownIn, settingsIn}
 use Rattle.settings.specs.Fields.{fieldsSize, fieldsRead}
+use Rattle.settings.specs.Kept.{keptOf, noKept, keptSaid, keptRead, keptBodies}
 
 -- a body that is put into an array of its own size is all that the array has
 pub body-taken : (at size : ℕ) (fields : List ℕ) → at + size ≤ length fields
@@ -26,26 +31,40 @@ body-taken at size fields there =
     stored-whole (replicate size 0) (part at size fields) (length-replicate size 0 ∙ sym (length-part at size fields there))
 
 -- arrays of the bodies' lengths, stored into zeros one after the other
-module _ (p r s q : List ℕ) (lp : length p ≡ 32) (lr : length r ≡ 16) (ls : length s ≡ 18) (lq : length q ≡ 8) where
-  pub bodies-joined : sets (sets (sets (sets (replicate 74 0) 0 p) 32 r) 48 s) 66 q ≡ p ++ (r ++ (s ++ q))
-  bodies-joined =
-      sets-join (sets (sets (replicate 74 0) 0 p) 32 r) 48 66 s q (omega arith)
-      ∙ sets-join (sets (replicate 74 0) 0 p) 32 48 r (s ++ q) (omega arith)
-      ∙ sets-join (replicate 74 0) 0 32 p (r ++ (s ++ q)) (omega arith)
-      ∙ stored-whole (replicate 74 0) (p ++ (r ++ (s ++ q))) (simp length-append (omega arith))
+module _ (p r s : List ℕ) (lp : length p ≡ 32) (lr : length r ≡ 16) (ls : length s ≡ 18) where
+  length-five : length (p ++ (r ++ s)) ≡ 66
+  length-five = simp length-append (omega arith)
+
+  pub five-joined : sets (sets (sets (replicate 66 0) 0 p) 32 r) 48 s ≡ p ++ (r ++ s)
+  five-joined =
+      sets-join (sets (replicate 66 0) 0 p) 32 48 r s (omega arith)
+      ∙ sets-join (replicate 66 0) 0 32 p (r ++ s) (omega arith)
+      ∙ stored-whole (replicate 66 0) (p ++ (r ++ s)) (sym length-five)
+
+  -- and then the protection, of any size
+  pub protection-joined : (size : ℕ) (q : List ℕ) → length q ≡ size → sets (sets (replicate (66 + size) 0) 0 (p ++ (r ++ s))) 66 q ≡ p ++ (r ++ (s ++ q))
+  protection-joined size q lq =
+      sets-join (replicate (66 + size) 0) 0 66 (p ++ (r ++ s)) q (omega (arith, length-five))
+      ∙ stored-whole (replicate (66 + size) 0) ((p ++ (r ++ s)) ++ q) (length-replicate (66 + size) 0 ∙ sym (length-append (p ++ (r ++ s)) q ∙ omega (arith, length-five)))
+      ∙ append-assoc p (r ++ s) q ∙ ap (λ (l : List ℕ). p ++ l) (append-assoc r s q)
 
 -- bodies 3 to 5 as one
-pub bodies-made : (s : Settings)
-    → s .password ++ (s .«reset_password» ++ ((valuesOf (s .shown) ++ numbersOf (s .shown)) ++ s .protection)) ≡ bodiesOf s
-unfolding bodiesOf
-bodies-made s =
-    ap (λ (l : List ℕ). s .password ++ (s .«reset_password» ++ l)) (append-assoc (valuesOf (s .shown)) (numbersOf (s .shown)) (s .protection))
+pub bodies-made : (password reset : List ℕ) (shown : Shown) (protection : List ℕ)
+    → password ++ (reset ++ ((valuesOf shown ++ numbersOf shown) ++ protection)) ≡ bodiesWith password reset shown protection
+bodies-made password reset shown protection =
+    ap (λ (l : List ℕ). password ++ (reset ++ l)) (append-assoc (valuesOf shown) (numbersOf shown) protection)
 
 -- settings whose arrays have their lengths, as every value of the struct has
 module _ (s : Settings) (p : length (s .password) ≡ 32) (r : length (s .«reset_password») ≡ 16) (q : length (s .protection) ≡ 8) where
   pub length-bodies : length (bodiesOf s) ≡ 74
   unfolding bodiesOf bytesOf
   length-bodies = simp length-append (omega arith)
+
+-- what a session keeps, of as many bytes as its struct has
+module _ (k : Kept) (p : length (k .password) ≡ 32) (r : length (k .«reset_password») ≡ 16) (q : length (k .protection) ≡ 32) where
+  pub length-kept : length (keptBodies k) ≡ 98
+  unfolding keptBodies bytesOf
+  length-kept = simp length-append (omega arith)
 
 -- where the bodies begin, in either form
 pub bodies-begin : (form : Form) → bodiesAt form ≤ 60
@@ -94,6 +113,14 @@ module _ (image : List ℕ) where
       let size : length (part (bodiesAt form) 74 image) ≡ fieldsSize form1 =
       omega (arith, bodies-end One, length-part (bodiesAt form) 74 image (omega (arith, bodies-begin form))) in
       pick-true _ noSettings (eq-eqb (length (part (bodiesAt form) 74 image)) (fieldsSize form1) size) ∙ settings-there form
+
+  -- a session keeps of the image what it keeps of these bodies
+  pub kept-there : (form : Form) → 134 ≤ length image → keptRead (part (bodiesAt form) 74 image) ≡ keptOf (settingsIn (layoutOf form) image)
+  unfolding keptRead
+  kept-there form h =
+      let size = length-part (bodiesAt form) 74 image (omega (arith, bodies-begin form)) in
+      pick-true _ (pick (eqb (length (part (bodiesAt form) 74 image)) 98) (keptSaid (part (bodiesAt form) 74 image)) noKept) (eq-eqb _ 74 size)
+      ∙ ap keptOf (fields-there form h)
 
   -- and so does the last byte of body 3
   pub zero-there : (form : Form) → getD (part (bodiesAt form) 74 image) 53 0 ≡ getD (bodyIn (layoutOf form) 3 image) 5 0

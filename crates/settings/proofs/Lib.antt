@@ -7,6 +7,8 @@ pub mod TableLaws
 pub mod BodyLaws
 -- AgainLaws: of the settings that some fields say, the same fields are made again.
 pub mod AgainLaws
+-- KeptLaws: what a session keeps, read body by body.
+pub mod KeptLaws
 -- WriterLaws: written piece by piece, the pieces make the image.
 pub mod WriterLaws
 -- ReaderLaws: what the reader tells beside its number.

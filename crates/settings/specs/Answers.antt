@@ -2,7 +2,7 @@
 -- refused has the number 0.
 use Prim.Native.Nat.{ℕ}
 use mathlib.Core.List.{List}
-use Rattle.settings.specs.declared.Settings.{Settings}
+use Rattle.settings.specs.declared.Kept.{Kept}
 use Rattle.settings.specs.declared.Contents.{Contents}
 use Rattle.settings.specs.declared.Reading.{Reading}
 use Rattle.settings.specs.declared.SettingsReading.{SettingsReading}
@@ -15,6 +15,7 @@ use Rattle.settings.specs.declared.WriteAnswer.the-variants as write
 use Rattle.settings.specs.declared.MoveAnswer.{MoveAnswer}
 use Rattle.settings.specs.declared.MoveAnswer.the-variants as move
 use Rattle.settings.specs.Values.{noContents}
+use Rattle.settings.specs.Kept.{keptOf}
 
 -- an answer's number, and the entry that goes with it
 pub record Numbered : Type 0 where
@@ -63,7 +64,7 @@ refused told = record { number = told .number; entry = told .entry; contents = n
 pub record SettingsTold : Type 0 where
   pub number : ℕ
   pub entry : ℕ
-  pub settings : Settings
+  pub settings : Kept
 
 abbrev pub settingsTold : SettingsReading → SettingsTold
 settingsTold reading = record {
@@ -73,7 +74,7 @@ settingsTold reading = record {
 }
 
 abbrev pub settingsOnly : ReadTold → SettingsTold
-settingsOnly told = record { number = told .number; entry = told .entry; settings = told .contents .settings }
+settingsOnly told = record { number = told .number; entry = told .entry; settings = keptOf (told .contents .settings) }
 
 -- "the writer 3 then 8"; T-09: "41, a name not all 0xFF .. in form 1 settings to be written, after 8"
 abbrev pub writeNumber : WriteAnswer → ℕ

@@ -21,10 +21,11 @@ abbrev pub numbersOf : Shown → List ℕ
 numbersOf shown = bytesOf 4 (shown .«bcr_id») ++ (bytesOf 4 (shown .«bsl_id») ++ bytesOf 4 (shown .«version_pointer»))
 
 -- the six bodies in the order of their kinds; kind 6 is "one bit a sector"
+abbrev pub bodiesWith : List ℕ → List ℕ → Shown → List ℕ → List ℕ
+bodiesWith password reset shown protection = password ++ (reset ++ (valuesOf shown ++ (numbersOf shown ++ protection)))
+
 unfoldable pub bodiesOf : Settings → List ℕ
-bodiesOf settings =
-    settings .password
-    ++ (settings .«reset_password» ++ (valuesOf (settings .shown) ++ (numbersOf (settings .shown) ++ settings .protection)))
+bodiesOf settings = bodiesWith (settings .password) (settings .«reset_password») (settings .shown) (settings .protection)
 
 -- T-09: "Settings remember their form"
 abbrev pub contentsOf : Form → Settings → List ℕ → Contents

@@ -18,7 +18,7 @@ unfoldable pub fieldsRead : Layout → List ℕ → Settings
 fieldsRead layout fields =
     pick (eqb (length fields) (fieldsSize layout)) (settingsIn layout (replicate (tableEnd layout) 0 ++ fields)) noSettings
 
--- how many bytes of fields a record keeps
+-- how many bytes of fields an MSPM0's record keeps
 abbrev pub keptSize : ℕ
 keptSize = 74
 

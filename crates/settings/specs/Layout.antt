@@ -19,6 +19,10 @@ form1 = record { form = 1; lengths = 32 ∷ 16 ∷ 6 ∷ 8 ∷ 4 ∷ 8 ∷ [] }
 abbrev pub form2 : Layout
 form2 = record { form = 2; lengths = 32 ∷ 16 ∷ 6 ∷ 8 ∷ 4 ∷ 8 ∷ 64 ∷ [] }
 
+-- T-10, the larger part's form 2: "The protection body becomes 32 bytes for this part, so the name ends at 222."
+abbrev pub large : Layout
+large = record { form = 2; lengths = 32 ∷ 16 ∷ 6 ∷ 8 ∷ 4 ∷ 32 ∷ 64 ∷ [] }
+
 abbrev pub layoutOf : Form → Layout
 layoutOf One = form1
 layoutOf Two = form2

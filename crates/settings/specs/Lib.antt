@@ -11,6 +11,8 @@ pub mod Entries
 pub mod Bodies
 -- Fields: the six bodies by themselves, as a record keeps them.
 pub mod Fields
+-- Kept: what a session keeps of the settings, and as which bytes.
+pub mod Kept
 -- Image: the image of some contents.
 pub mod Image
 -- Answers: 01's number for each answer.

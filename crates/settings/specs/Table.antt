@@ -4,7 +4,7 @@ use mathlib.Core.List.{List, [], _∷_, _++_}
 use Prim.Native.Nat.{ℕ}
 use Rattle.settings.specs.declared.Form.{Form}
 use Rattle.settings.specs.declared.Form.the-variants.{One, Two}
-use Rattle.settings.specs.Layout.{layoutOf, tableEnd, bodiesEnd, tableOf, entriesFrom, offsetOf, sumOf}
+use Rattle.settings.specs.Layout.{large, layoutOf, tableEnd, bodiesEnd, tableOf, entriesFrom, offsetOf, sumOf}
 
 -- 01: "Bytes 0-1 form number 1; 2-3 entry count 6", then kind, offset, length and zero of each line; T-09: "Settings form 2 has count 7;
 -- kind 7 is a 64-byte name."
@@ -32,6 +32,22 @@ unfolding tableOf entriesFrom offsetOf sumOf
 layout-gives-table One = refl
 layout-gives-table Two = refl
 
+-- T-10: "The protection body becomes 32 bytes for this part"
+abbrev pub printedLarge : List ℕ
+printedLarge =
+    (2 ∷ 7 ∷ [])
+    ++ (1 ∷ 60 ∷ 32 ∷ 0 ∷ [])
+    ++ (2 ∷ 92 ∷ 16 ∷ 0 ∷ [])
+    ++ (3 ∷ 108 ∷ 6 ∷ 0 ∷ [])
+    ++ (4 ∷ 114 ∷ 8 ∷ 0 ∷ [])
+    ++ (5 ∷ 122 ∷ 4 ∷ 0 ∷ [])
+    ++ (6 ∷ 126 ∷ 32 ∷ 0 ∷ [])
+    ++ (7 ∷ 158 ∷ 64 ∷ 0 ∷ [])
+
+pub layout-gives-large : tableOf large ≡ printedLarge
+unfolding tableOf entriesFrom offsetOf sumOf
+layout-gives-large = refl
+
 -- where the bodies begin; T-09: "Its table ends at 60"
 abbrev pub bodiesAt : Form → ℕ
 bodiesAt One = 52
@@ -50,3 +66,8 @@ pub bodies-end : (form : Form) → bodiesEnd (layoutOf form) ≡ fillerAt form
 unfolding offsetOf sumOf
 bodies-end One = refl
 bodies-end Two = refl
+
+-- T-10: "so the name ends at 222"
+pub large-bodies-end : bodiesEnd large ≡ 222
+unfolding offsetOf sumOf
+large-bodies-end = refl

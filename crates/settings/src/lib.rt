@@ -12,11 +12,15 @@ mod writer;
 
 pub use allowed::are_allowed;
 pub use fields_reader::read_fields;
+pub use fields_reader::read_kept;
 pub use fields_writer::put_fields;
+pub use fields_writer::put_kept;
 pub use moves::to_form_1;
 pub use moves::to_form_2;
 pub use presets::blank;
+pub use presets::blank_kept;
 pub use presets::none;
+pub use presets::none_kept;
 pub use reader::accepts;
 pub use reader::read;
 pub use reader::read_settings;
@@ -38,6 +42,14 @@ pub struct Shown {
 pub struct Settings {
     pub shown: Shown,
     pub protection: [u8; 8],
+    pub password: [u8; 32],
+    pub reset_password: [u8; 16],
+}
+
+// What a session keeps of them, on either part: with protection for as many sectors as the larger one has.
+pub struct Kept {
+    pub shown: Shown,
+    pub protection: [u8; 32],
     pub password: [u8; 32],
     pub reset_password: [u8; 16],
 }
@@ -72,6 +84,9 @@ const PROTECTION_AT: usize = POINTER_AT + 4;
 pub const FIELDS_SIZE: usize = PROTECTION_AT + 8;
 
 pub const NAME_SIZE: usize = 64;
+
+// The same with the protection that a session keeps.
+pub const KEPT_SIZE: usize = PROTECTION_AT + 32;
 
 // Where the name begins, in an image that has one.
 const NAME_AT: usize = 134;
@@ -109,7 +124,7 @@ pub struct Reading {
 // What a session takes of them: the settings alone.
 pub struct SettingsReading {
     pub answer: ReadAnswer,
-    pub settings: Settings,
+    pub settings: Kept,
 }
 
 // What the writer answers.

@@ -1,8 +1,10 @@
 // What stands for a blank image, or for none.
 ghost use mathlib.Core.Path.{_≡_};
 ghost use Rattle.settings.specs.Values.{blankSettings, noSettings, noName, blankContents, noContents};
+ghost use Rattle.settings.specs.Kept.{keptOf, blankKept, noKept};
 use crate::Contents;
 use crate::Form;
+use crate::Kept;
 use crate::NAME_SIZE;
 use crate::Settings;
 use crate::Shown;
@@ -47,6 +49,38 @@ pub fn none() -> Settings
         password: [0; 32],
         reset_password: [0; 16],
     }
+}
+
+// Settings as a session keeps them: no sector beyond the 64th is protected.
+fn kept(settings: Settings) -> Kept
+    ensures { λ r. ⌜ r ≡ keptOf settings ⌝ }
+{
+    let shown = settings.shown;
+    let first = settings.protection;
+    let password = settings.password;
+    let reset_password = settings.reset_password;
+    let mut protection = [0u8; 32];
+    octets::put(&mut protection, 0, &first);
+    Kept {
+        shown,
+        protection,
+        password,
+        reset_password,
+    }
+}
+
+// What a session keeps of a blank image.
+pub fn blank_kept() -> Kept
+    ensures { λ r. ⌜ r ≡ blankKept ⌝ }
+{
+    kept(blank())
+}
+
+// What stands beside a refusal, and no call takes.
+pub fn none_kept() -> Kept
+    ensures { λ r. ⌜ r ≡ noKept ⌝ }
+{
+    kept(none())
 }
 
 // The name of an image that has none.

@@ -4,6 +4,7 @@ ghost use lib.ListN.{length};
 ghost use Rattle.octets.specs.Number.{part};
 ghost use Rattle.settings.specs.Layout.{layoutOf};
 ghost use Rattle.settings.specs.Bodies.{settingsIn, nameIn, contentsIn};
+ghost use Rattle.settings.specs.Kept.{keptOf};
 ghost use Rattle.settings.specs.Answers.{readTold, settingsTold, settingsOnly};
 ghost use Rattle.settings.specs.Reader.{readOf, isAccepted};
 use crate::Checked;
@@ -11,6 +12,7 @@ use crate::Contents;
 use crate::FIELDS_SIZE;
 use crate::Form;
 use crate::Forms;
+use crate::Kept;
 use crate::NAME_AT;
 use crate::NAME_SIZE;
 use crate::ReadAnswer;
@@ -85,6 +87,14 @@ pub fn read(image: &[u8]) -> Reading
     }
 }
 
+// What a session keeps of an image of a form.
+fn kept_in(form: Form, image: &[u8]) -> Kept
+    requires { ⌜ length (now image) ≡ 1024 ⌝ }
+    ensures { λ r. ⌜ r ≡ keptOf (settingsIn (layoutOf form) (now (image .entry))) ⌝ }
+{
+    fields_reader::read_kept(octets::part_of(image, places::bodies_at(form), FIELDS_SIZE))
+}
+
 // Reads of an image what a session takes: the settings, without form and name.
 pub fn read_settings(image: &[u8]) -> SettingsReading
     ensures { λ r. ⌜ settingsTold r ≡ settingsOnly (readOf (now (image .entry))) ⌝ }
@@ -93,15 +103,15 @@ pub fn read_settings(image: &[u8]) -> SettingsReading
     match checked {
         Checked::Blank => SettingsReading {
             answer: ReadAnswer::Accepted,
-            settings: presets::blank(),
+            settings: presets::blank_kept(),
         },
         Checked::Written(form) => SettingsReading {
             answer: ReadAnswer::Accepted,
-            settings: settings_in(form, image),
+            settings: kept_in(form, image),
         },
         Checked::Refused(refusal) => SettingsReading {
             answer: ReadAnswer::Refused(refusal),
-            settings: presets::none(),
+            settings: presets::none_kept(),
         },
     }
 }

@@ -1,9 +1,9 @@
 // A request and its reply as printed, and what the loader makes of the request.
 use crate::boards;
+use crate::boards::Board;
 use crate::frames;
 use crate::text;
 use line::codes;
-use parts::Mspm0;
 
 // No packet of the documents has more bytes.
 const MOST: usize = 64;
@@ -23,9 +23,9 @@ fn put_line(name: &[u8], line: &[u8], at: u8, whole: &mut [u8]) -> usize {
     size
 }
 
-fn say_acknowledgement(packet: &[u8]) {
+fn say_acknowledgement(board: Board, packet: &[u8]) {
     text::say(b", acknowledged");
-    text::say_bytes(&[line::acknowledge(Mspm0::LAST_RATE, packet)]);
+    text::say_bytes(&[line::acknowledge(boards::last_rate(board), packet)]);
 }
 
 fn say_check(frame: &[u8]) {
@@ -47,26 +47,26 @@ fn say_verdict(same: bool) {
     text::say(b"; the answer differs:");
 }
 
-fn show_answer(packet: &[u8], expected: &[u8]) {
+fn show_answer(board: Board, packet: &[u8], expected: &[u8]) {
     let mut area = [0u8; codes::REPLY_LIMIT];
-    let size = boards::put_reply(packet, &mut area);
+    let size = boards::put_reply(board, packet, &mut area);
     let reply = octets::part_of(&area, 0, size);
     say_verdict(octets::are_same(reply, expected));
     text::say_bytes(reply);
 }
 
-fn show_reply(packet: &[u8], line: &[u8]) {
+fn show_reply(board: Board, packet: &[u8], line: &[u8]) {
     let mut reply = [0u8; MOST];
     let size = put_line(b"; reply ", line, REPLY_AT, &mut reply);
     say_check(octets::part_of(&reply, 1, octets::room(size, 1)));
-    show_answer(packet, octets::part_of(&reply, 0, size));
+    show_answer(board, packet, octets::part_of(&reply, 0, size));
 }
 
-pub(crate) fn show(name: &[u8], request: &[u8], reply: &[u8]) {
+pub(crate) fn show(board: Board, name: &[u8], request: &[u8], reply: &[u8]) {
     let mut packet = [0u8; MOST];
     text::say(name);
     let size = put_line(b": ", request, REQUEST_AT, &mut packet);
     let whole = octets::part_of(&packet, 0, size);
-    say_acknowledgement(whole);
-    show_reply(whole, reply);
+    say_acknowledgement(board, whole);
+    show_reply(board, whole, reply);
 }

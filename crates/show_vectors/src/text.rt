@@ -1,8 +1,8 @@
 // Plain text on standard output, and bytes in a text: a space, or the end of the line before, and two hexadecimal digits for each.
 use libc::STDOUT_FILENO;
 
-// So many bytes of a reply are shown; Info's has no more.
-const MOST_SHOWN: usize = 33;
+// So many bytes of a reply are shown; no part's Info has more.
+const MOST_SHOWN: usize = 37;
 
 pub(crate) fn say(text: &[u8]) {
     io::write_all(STDOUT_FILENO, text);

@@ -6,13 +6,16 @@
 
 uint32_t choose_main_size(struct dice *dice)
 {
-    static const uint32_t common[] = {1024, 2048, 4096, 4096, 8192, 65536};
-    return chance(dice, 70) ? ONE_OF(dice, common) : SECTOR * (1 + below(dice, 64));
+    static const uint32_t common[] = COMMON_MAIN_SIZES;
+    uint32_t percent = below(dice, 100);
+    if (percent < COMMON_PERCENT)
+        return ONE_OF(dice, common);
+    return percent < COMMON_PERCENT + LARGEST_PERCENT ? MAIN_LARGEST : SECTOR * (1 + below(dice, MAIN_LARGEST / SECTOR));
 }
 
 uint32_t choose_odd_main_size(struct dice *dice)
 {
-    static const uint32_t odd[] = {0, 1, 512, 1023, 1025, 1536, 4095, 4097, 65535, 65537, 66560, 67 * 1024};
+    static const uint32_t odd[] = ODD_MAIN_SIZES;
     return chance(dice, 80) ? ONE_OF(dice, odd) : choose_main_size(dice);
 }
 
@@ -27,31 +30,34 @@ static void choose_secret(struct dice *dice, uint8_t *bytes, size_t count)
 
 static uint32_t choose_pointer(struct dice *dice, uint32_t main_size)
 {
-    static const uint32_t far[] = {0xFFFFFFFF, 0xFFFFFFFC, 0xFFFFFFFD, SETTINGS_START, 0x20000000, 0x80000000};
-    switch (below(dice, 6)) {
+    static const uint32_t far[] = {0xFFFFFFFF,     0u - VERSION_BYTES, 1u - VERSION_BYTES,
+                                   SETTINGS_START, 0x20000000,         0x80000000};
+    switch (below(dice, 8)) {
     case 0:
         return ONE_OF(dice, far);
     case 1:
-        return main_size - 4;
+        return main_size - VERSION_BYTES;
     case 2:
-        return main_size - 6 + below(dice, 8);
+        return main_size - VERSION_BYTES - 2 + below(dice, VERSION_BYTES + 4);
     case 3:
         return below(dice, main_size);
+    case 4: /* half of what it should be a multiple of */
+        return below(dice, main_size / VERSION_BYTES) * VERSION_BYTES + VERSION_BYTES / 2;
     default:
-        return below(dice, main_size / 4) * 4;
+        return below(dice, main_size / VERSION_BYTES) * VERSION_BYTES;
     }
 }
 
 static void choose_protection(struct dice *dice, uint32_t main_size, uint8_t *bits)
 {
     uint32_t last = main_size / SECTOR - 1;
-    memset(bits, 0, 8);
-    switch (below(dice, 7)) {
+    memset(bits, 0, PROTECTION_BYTES);
+    switch (below(dice, last < 64 ? 7 : 9)) {
     case 0:
-        memset(bits, 0xFF, 8);
+        memset(bits, 0xFF, PROTECTION_BYTES);
         break;
     case 1:
-        noise(dice, bits, 8);
+        noise(dice, bits, PROTECTION_BYTES);
         break;
     case 2:
         bits[0] = 1;
@@ -60,11 +66,17 @@ static void choose_protection(struct dice *dice, uint32_t main_size, uint8_t *bi
         bits[last / 8] = (uint8_t)(1u << last % 8);
         break;
     case 4: /* only beyond MAIN, where it has no effect */
-        if (last < 63)
+        if (last + 1 < 8 * PROTECTION_BYTES)
             bits[(last + 1) / 8] = (uint8_t)(1u << (last + 1) % 8);
         break;
     case 5: /* every second one */
-        memset(bits, chance(dice, 50) ? 0x55 : 0xAA, 8);
+        memset(bits, chance(dice, 50) ? 0x55 : 0xAA, PROTECTION_BYTES);
+        break;
+    case 7: /* the first 64, and none after */
+        memset(bits, 0xFF, 8);
+        break;
+    case 8: /* all but the first 64 */
+        memset(bits + 8, 0xFF, PROTECTION_BYTES - 8);
         break;
     default:
         break;
@@ -107,7 +119,7 @@ static void choose_name(struct dice *dice, uint8_t *name)
 
 void choose_form(struct dice *dice, uint8_t *fields)
 {
-    bool two = chance(dice, 50);
+    bool two = !HAS_FORM_1 || chance(dice, 50);
     write16(fields + FORM_AT, two ? 2 : 1);
     memset(fields + NAME_AT, 0xFF, NAME_BYTES);
     if (two)
@@ -122,7 +134,7 @@ void choose_contents(struct dice *dice, uint32_t main_size, uint8_t *fields)
 
 void break_contents(struct dice *dice, uint8_t *fields)
 {
-    static const uint16_t forms[] = {0, 3, 0x0100, 0x0101, 0x0102, 0x0200, 0xFFFF};
+    static const uint16_t forms[] = {0, 1, 1, 3, 0x0100, 0x0101, 0x0102, 0x0200, 0xFFFF};
     if (chance(dice, 40))
         break_fields(dice, fields);
     if (chance(dice, 40))
@@ -152,6 +164,14 @@ static void break_filler(struct dice *dice, uint8_t *image)
     image[at] ^= (uint8_t)(1u << below(dice, 8));
 }
 
+/* A byte after the image, where the settings are larger: at an end, or any. */
+static void break_second_half(struct dice *dice, uint8_t *settings)
+{
+    uint32_t ends[] = {IMAGE_END, SETTINGS_BYTES - 1};
+    uint32_t at = chance(dice, 50) ? ends[below(dice, 2)] : IMAGE_END + below(dice, SETTINGS_BYTES - IMAGE_END);
+    settings[at] ^= (uint8_t)(1u << below(dice, 8));
+}
+
 /* One change that refusal 5, 6, 7 or 8 is about. */
 static void break_image(struct dice *dice, uint8_t *image)
 {
@@ -165,10 +185,27 @@ static void break_image(struct dice *dice, uint8_t *image)
         image[IMAGE_ENTRIES_AT + below(dice, table)] ^= (uint8_t)(1u << below(dice, 8));
         break;
     case 3:
-        break_filler(dice, image);
+        if (IS_AM13E230X && chance(dice, 60))
+            break_second_half(dice, image);
+        else
+            break_filler(dice, image);
         break;
     default:
         break_fields(dice, image + fields_at(image));
+    }
+}
+
+/* An image that the other part takes, or nearly: with its length of protection; the MSPM0's form 1. */
+static void make_other(struct dice *dice, const uint8_t *fields, uint8_t *image)
+{
+    uint8_t of_form_1[FIELDS_BYTES];
+    enum { LENGTH_6_AT = IMAGE_ENTRIES_AT + 8 * 5 + 4, OTHER_PROTECTION = 40 - PROTECTION_BYTES };
+    memcpy(of_form_1, fields, FIELDS_BYTES);
+    write16(of_form_1 + FORM_AT, 1);
+    make_image(IS_AM13E230X && chance(dice, 60) ? of_form_1 : fields, image);
+    if (is_form_2(image)) {
+        image[LENGTH_6_AT] = OTHER_PROTECTION;
+        sign_image(image);
     }
 }
 
@@ -208,6 +245,8 @@ static void damage_image(struct dice *dice, uint8_t *image)
         if (chance(dice, 90))
             sign_image(image);
     }
+    if (IS_AM13E230X && chance(dice, 10)) /* blank by the first half alone */
+        memset(image, 0xFF, IMAGE_END), break_second_half(dice, image);
 }
 
 struct step choose_settings(struct dice *dice, uint32_t main_size)
@@ -218,6 +257,8 @@ struct step choose_settings(struct dice *dice, uint32_t main_size)
     make_image(fields, image);
     if (chance(dice, 12))
         memset(image, 0xFF, SETTINGS_BYTES);
+    else if (chance(dice, 4))
+        make_other(dice, fields, image);
     else if (chance(dice, 30))
         damage_image(dice, image);
     give_data(&step, image, SETTINGS_BYTES);
@@ -246,7 +287,7 @@ static void choose_standing(struct dice *dice, uint8_t *record)
     record[PHASE_AT] = (uint8_t)(chance(dice, 70) ? PHASE_COMMAND : below(dice, 5));
     record[COUNT_AT] = (uint8_t)below(dice, 4);
     write32(record + TRIES_AT, chance(dice, 40) ? record[COUNT_AT] : ONE_OF(dice, totals));
-    record[RATE_AT] = (uint8_t)(1 + below(dice, 9));
+    record[RATE_AT] = (uint8_t)(chance(dice, 90) ? 1 + below(dice, 9) : LAST_RATE);
     write32(record + IDLE_AT, chance(dice, 70) ? ONE_OF(dice, idles) : below(dice, 10000));
     if (record[PHASE_AT] != PHASE_COMMAND)
         return;
@@ -280,7 +321,7 @@ static void break_record(struct dice *dice, uint8_t *record)
     if (clause == 2)
         record[COUNT_AT] = (uint8_t)(chance(dice, 60) ? 4 : 4 + below(dice, 252));
     if (clause == 3)
-        record[RATE_AT] = (uint8_t)(chance(dice, 50) ? 0 : chance(dice, 60) ? 10 : 10 + below(dice, 246));
+        record[RATE_AT] = (uint8_t)(chance(dice, 30) ? 0 : chance(dice, 80) ? 10 + below(dice, 8) : 10 + below(dice, 246));
     if (clause == 4)
         write32(record + SLEEP_AT, over(dice, 2000));
     if (clause == 5)

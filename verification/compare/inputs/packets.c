@@ -6,12 +6,22 @@
 
 /* ---- Ranges ---- */
 
+/* An address in a sector from the 65th on, of a MAIN that has one. */
+static uint32_t choose_far(struct dice *dice, uint32_t main_size)
+{
+    uint32_t first = 64 * SECTOR;
+    return first + below(dice, (main_size - first) / WORD) * WORD;
+}
+
 static uint32_t choose_address(struct dice *dice, const struct standing *standing)
 {
-    static const int32_t near[] = {-1024, -1023, -16, -8, -7, -4, -1, 0, 0, 0, 1, 4, 8, 1024};
+    static const int32_t near[] = {-SECTOR, 1 - SECTOR, -16, -8, -7, -4, -1, 0, 0, 0, 1, 4, 8, 16, SECTOR};
     static const uint32_t far[] = {0x20000000, 0x20001000, 0x80000000, 0x10000,    0xFFFFFC00, 0xFFFFFFF0,
-                                   0xFFFFFFF8, 0xFFFFFFF8, 0xFFFFFFFF, 0x41BFFC00, 0x01C00000, 0x41C10000};
+                                   0xFFFFFFF8, 0xFFFFFFF8, 0xFFFFFFFF, 0x41BFFC00, 0x01C00000, 0x41C10000,
+                                   0x80000,    0x60100000, 0x60100C00, OTHER_SETTINGS_START};
     uint32_t near_by = (uint32_t)ONE_OF(dice, near);
+    if (standing->main_size > 64 * SECTOR && chance(dice, 25))
+        return choose_far(dice, standing->main_size);
     switch (below(dice, 16)) {
     case 0:
         return 0;
@@ -22,7 +32,7 @@ static uint32_t choose_address(struct dice *dice, const struct standing *standin
     case 3:
         return SETTINGS_START + SETTINGS_BYTES + near_by;
     case 4:
-        return SETTINGS_START + below(dice, SETTINGS_BYTES / 8) * 8;
+        return SETTINGS_START + below(dice, SETTINGS_BYTES / WORD) * WORD;
     case 5:
         return chance(dice, 80) ? ONE_OF(dice, far) : (uint32_t)roll(dice);
     case 6:
@@ -32,11 +42,13 @@ static uint32_t choose_address(struct dice *dice, const struct standing *standin
     case 8:
         return WINDOW_START + near_by;
     case 9:
-        return WINDOW_START + WINDOW_BYTES + near_by;
+        return WINDOW_START + WINDOW_SPAN + near_by;
     case 10:
-        return WINDOW_START + below(dice, WINDOW_BYTES);
+        return WINDOW_START + below(dice, WINDOW_SPAN);
+    case 11: /* as for Program, and half as even */
+        return below(dice, 2 * standing->main_size / WORD) * (WORD / 2);
     default:
-        return below(dice, standing->main_size / 8) * 8;
+        return below(dice, standing->main_size / WORD) * WORD;
     }
 }
 
@@ -47,8 +59,8 @@ static uint32_t bytes_left(const struct standing *standing, uint32_t address)
         return standing->main_size - address;
     if (address - SETTINGS_START < SETTINGS_BYTES)
         return SETTINGS_START + SETTINGS_BYTES - address;
-    if (address - WINDOW_START < WINDOW_BYTES)
-        return WINDOW_START + WINDOW_BYTES - address;
+    if (address - WINDOW_START < WINDOW_SPAN)
+        return WINDOW_START + WINDOW_SPAN - address;
     return 0 - address;
 }
 
@@ -59,9 +71,9 @@ static uint32_t choose_count(struct dice *dice, const struct standing *standing,
     case 0:
         return left;
     case 1:
-        return left + (chance(dice, 50) ? 1 : 8);
+        return left + (chance(dice, 50) ? 1 : WORD);
     case 2: /* to 2^32 and a little over */
-        return 0 - address + 8 * below(dice, 3);
+        return 0 - address + WORD * below(dice, 3);
     default:
         return otherwise;
     }
@@ -73,7 +85,7 @@ static size_t unlock_core(struct dice *dice, const struct standing *standing, ui
 {
     uint8_t *password = core + 1;
     memcpy(password, standing->fields + PASSWORD_AT, 32);
-    if (chance(dice, standing->unlocked ? 30 : 65))
+    if (chance(dice, standing->unlocked || standing->wrong_count > 0 ? 30 : 65))
         return 33;
     switch (below(dice, 5)) {
     case 0:
@@ -140,7 +152,7 @@ static size_t range_erase_core(struct dice *dice, const struct standing *standin
 static void choose_words_at_edge(struct dice *dice, const struct standing *standing, uint32_t *address, uint32_t *count)
 {
     uint32_t edge = SECTOR * (1 + below(dice, standing->main_size / SECTOR));
-    uint32_t before = 8 * below(dice, 4), after = 8 * below(dice, chance(dice, 80) ? 4 : 200);
+    uint32_t before = WORD * below(dice, 4), after = WORD * below(dice, chance(dice, 80) ? 4 : 1600 / WORD);
     *address = edge - before;
     *count = before + after;
 }
@@ -149,17 +161,19 @@ static size_t program_core(struct dice *dice, const struct standing *standing, u
 {
     uint32_t address = choose_address(dice, standing);
     uint32_t most = CORE_LARGEST - 5;
-    uint32_t count = choose_count(dice, standing, address, 8 * (1 + below(dice, chance(dice, 80) ? 8 : 214)));
+    uint32_t count = choose_count(dice, standing, address, WORD * (1 + below(dice, chance(dice, 80) ? 8 : 1712 / WORD)));
     if (chance(dice, 20))
         choose_words_at_edge(dice, standing, &address, &count);
     if (chance(dice, 8))
-        count = 1 + below(dice, most);
+        count = chance(dice, 70) ? 1 + below(dice, most) : WORD / 2 * (1 + below(dice, 8));
     if (chance(dice, 3))
         count = most;
     if (count < 1 || count > most)
         count = 16;
+    if (IS_AM13E230X && chance(dice, 6)) /* after the settings' image */
+        address = SETTINGS_START + IMAGE_END + WORD * below(dice, 8);
     if (chance(dice, 3)) /* up to the window's end, or a byte over it */
-        address = WINDOW_START + WINDOW_BYTES - count + below(dice, 2);
+        address = WINDOW_START + WINDOW_SPAN - count + below(dice, 2);
     write32(core + 1, address);
     memset(core + 5, chance(dice, 50) ? 0x00 : 0xFF, count);
     if (chance(dice, 80))
@@ -179,13 +193,21 @@ static size_t read_back_core(struct dice *dice, const struct standing *standing,
 
 static size_t verify_core(struct dice *dice, const struct standing *standing, uint8_t *core)
 {
-    static const uint32_t limits[] = {0, 8, 1023, 1024, 1025, 65535, 65536, 65537, 0xFFFFFFFF, 0x10400, 0x80000400};
-    static const uint32_t starts[] = {0,            0,          SETTINGS_START, SETTINGS_START - 1024, SETTINGS_START + 1024,
-                                      WINDOW_START, 0x20000000};
+    static const uint32_t limits[] = {0,     8,     1023,         1024,             VERIFY_LEAST - 1, VERIFY_LEAST,
+                                      65535, 65536, 65537,        VERIFY_LEAST + 1, MAIN_LARGEST,     MAIN_LARGEST + 1,
+                                      0x10400,      0x80000400,   0xFFFFFFFF};
+    static const uint32_t starts[] = {0,            0,         SETTINGS_START, SETTINGS_START - SECTOR,
+                                      WINDOW_START, 0x20000000, SETTINGS_START + SECTOR};
     uint32_t address = chance(dice, 40) ? ONE_OF(dice, starts) : choose_address(dice, standing);
-    uint32_t count = choose_count(dice, standing, address, 1024 + below(dice, 1024));
+    uint32_t count = choose_count(dice, standing, address, VERIFY_LEAST + below(dice, 1024));
+    if (chance(dice, 30))
+        count = ONE_OF(dice, limits);
+    if (chance(dice, 5)) { /* all of MAIN */
+        address = 0;
+        count = standing->main_size;
+    }
     write32(core + 1, address);
-    write32(core + 5, chance(dice, 30) ? ONE_OF(dice, limits) : count);
+    write32(core + 5, count);
     return 9;
 }
 
@@ -201,8 +223,8 @@ static size_t factory_reset_core(struct dice *dice, const struct standing *stand
 
 static size_t rate_core(struct dice *dice, uint8_t *core)
 {
-    static const uint8_t outside[] = {0, 10, 11, 0x80, 0xFF};
-    core[1] = chance(dice, 25) ? ONE_OF(dice, outside) : (uint8_t)(1 + below(dice, 9));
+    static const uint8_t outside[] = {0, 10, 11, 12, 13, 14, 15, 16, 16, 16, 17, 0x80, 0xFF};
+    core[1] = chance(dice, 40) ? ONE_OF(dice, outside) : (uint8_t)(1 + below(dice, 9));
     return 2;
 }
 

@@ -7,7 +7,7 @@
 
 /* How a session stands, for choices that hit its limits. */
 struct standing {
-    uint8_t phase;
+    uint8_t phase, wrong_count;
     bool unlocked;
     uint32_t sleep, idle, main_size;
     const uint8_t *fields;

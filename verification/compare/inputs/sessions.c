@@ -6,6 +6,7 @@
 struct standing read_standing(uint32_t main_size, const uint8_t *record)
 {
     struct standing standing = {.phase = record[PHASE_AT],
+                                .wrong_count = record[COUNT_AT],
                                 .unlocked = record[LOCK_AT] == 1,
                                 .sleep = read32(record + SLEEP_AT),
                                 .idle = read32(record + IDLE_AT),
@@ -51,25 +52,26 @@ static size_t mostly(struct dice *dice, size_t right, const size_t *wrong, uint3
 
 static size_t choose_settings_size(struct dice *dice)
 {
-    static const size_t wrong[] = {0, 1, 126, 198, 1020, 1023, 1025, 2048};
+    static const size_t wrong[] = ODD_SETTINGS_SIZES;
     return mostly(dice, SETTINGS_BYTES, wrong, 8);
 }
 
 static size_t choose_window_size(struct dice *dice)
 {
     static const size_t wrong[] = {0, 1, 1024, 3455, 3457, 4096};
-    return mostly(dice, WINDOW_BYTES, wrong, 6);
+    return WINDOW_BYTES == 0 ? 0 : mostly(dice, WINDOW_BYTES, wrong, 6);
 }
 
 static size_t choose_record_size(struct dice *dice)
 {
-    static const size_t wrong[] = {0, 1, 74, 90, 93, 95, 128};
-    return mostly(dice, RECORD_BYTES, wrong, 7);
+    static const size_t wrong[] = {0,   1, KEPT_BYTES, RECORD_BYTES - 4, RECORD_BYTES - 1, RECORD_BYTES + 1,
+                                   128, OTHER_RECORD_BYTES};
+    return mostly(dice, RECORD_BYTES, wrong, 8);
 }
 
 static size_t choose_fields_size(struct dice *dice)
 {
-    static const size_t wrong[] = {0, 1, 74, 138, 139, 141};
+    static const size_t wrong[] = {0, 1, KEPT_BYTES, FORM_AT, FIELDS_BYTES - 1, FIELDS_BYTES + 1, OTHER_FIELDS_BYTES};
     return chance(dice, 85) ? FIELDS_BYTES : ONE_OF(dice, wrong);
 }
 
@@ -123,7 +125,7 @@ static struct step choose_read(struct dice *dice)
 
 static struct step choose_write(struct dice *dice, uint32_t main_size)
 {
-    uint8_t fields[FIELDS_BYTES + 4];
+    uint8_t fields[256];
     struct step step = {.kind = CALL_WRITE, .settings_size = choose_settings_size(dice)};
     noise(dice, fields, sizeof fields);
     choose_contents(dice, main_size, fields);
@@ -149,9 +151,10 @@ static struct step choose_mend(struct dice *dice)
 
 static struct step choose_rate(struct dice *dice)
 {
-    static const uint32_t outside[] = {0, 10, 11, 255, 256, 258, 0x10002, 0x80000001, 0xFFFFFFFF};
+    static const uint32_t outside[] = {0,   10,  11,  12,  13,      14,         15,        16, 16, 17,
+                                       255, 256, 258, 272, 0x10002, 0x80000001, 0xFFFFFFFF};
     return (struct step){.kind = CALL_RATE,
-                         .number = chance(dice, 60) ? 1 + below(dice, 9) : ONE_OF(dice, outside)};
+                         .number = chance(dice, 50) ? 1 + below(dice, 9) : ONE_OF(dice, outside)};
 }
 
 /* Nothing more happens in the last three phases, and a broken record is only refused again. */
@@ -170,19 +173,19 @@ struct step choose_step(struct dice *dice, uint32_t main_size, const struct side
         return choose_read(dice);
     if (which < 9)
         return choose_write(dice, main_size);
-    if (which < 15)
-        return choose_move(dice);
-    if (which < 21)
-        return choose_mend(dice);
-    if (which < 26 || (over && chance(dice, 25)))
+    if (which < 14 || (over && chance(dice, 25)))
         return choose_settings(dice, main_size);
-    if (which < 30 || (over && chance(dice, 25)))
+    if (which < 18 || (over && chance(dice, 25)))
         return choose_record(dice, main_size);
-    if (which < 32 || over)
+    if (which < 20 || over)
         return choose_start(dice, main_size);
-    if (which == 32)
+    if (which == 20)
         return choose_main(dice, main_size);
-    if (which == 33 && chance(dice, 30))
+    if (HAS_FORM_1 && which < 27)
+        return choose_move(dice);
+    if (HAS_FORM_1 && which < 33)
+        return choose_mend(dice);
+    if (WINDOW_BYTES > 0 && which == 33)
         return choose_window(dice);
     return choose_call(dice, main_size, side->area[AREA_RECORD]);
 }

@@ -87,8 +87,8 @@ static const uint8_t table_2[FIELDS_AT_2] = {2, 0, 7,   0,              /* form,
                                              3, 0, 108, 0, 6,  0, 0, 0, /**/
                                              4, 0, 114, 0, 8,  0, 0, 0, /**/
                                              5, 0, 122, 0, 4,  0, 0, 0, /**/
-                                             6, 0, 126, 0, 8,  0, 0, 0, /**/
-                                             7, 0, 134, 0, 64, 0, 0, 0 /* name */};
+                                             6, 0, 126, 0, PROTECTION_BYTES, 0, 0, 0,
+                                             7, 0, IMAGE_NAME_AT, 0, 64, 0, 0, 0};
 
 void make_image(const uint8_t *fields, uint8_t *image)
 {
@@ -99,7 +99,7 @@ void make_image(const uint8_t *fields, uint8_t *image)
         memcpy(image + IMAGE_NAME_AT, fields + NAME_AT, NAME_BYTES);
     } else {
         memcpy(image, table_1, sizeof table_1);
-        memcpy(image + FIELDS_AT_1, fields, KEPT_BYTES);
+        memcpy(image + FIELDS_AT_1, fields, FILLER_AT_1 - FIELDS_AT_1);
     }
     sign_image(image);
 }

@@ -10,9 +10,10 @@
  */
 
 enum { PAIR_SECTORS = 4, PAIR_MAIN = PAIR_SECTORS * SECTOR, PAIR_REPLY = 2048 };
+enum { PAIR_WINDOW = WINDOW_SPAN }; /* room, also where the part has none */
 
 struct board {
-    uint8_t main[PAIR_MAIN], settings[SETTINGS_BYTES], window[WINDOW_BYTES], record[RECORD_BYTES], reply[PAIR_REPLY];
+    uint8_t main[PAIR_MAIN], settings[SETTINGS_BYTES], window[PAIR_WINDOW], record[RECORD_BYTES], reply[PAIR_REPLY];
     uint64_t answer;
 };
 

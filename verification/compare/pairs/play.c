@@ -10,7 +10,7 @@
 #include <string.h>
 
 enum { ALERT_NOTHING, ALERT_RESET, ALERT_DISABLE };
-enum { SCENES_A_PLAY = 8, READOUT_ON = 0xAABB, GUESS_WAIT = 2000 };
+enum { SCENES_A_PLAY = 8, READOUT_ON = 0xAABB, GUESS_WAIT = 2000, READ_SIZE = 1024 };
 
 /* What is played: what the theorem covers, and then what it leaves out. */
 enum kind {
@@ -55,8 +55,8 @@ static void choose_pair_protection(struct play *play, uint8_t *fields)
 }
 
 /*
- * The settings agree but in the two passwords, in form and in name; of MAIN the version's four bytes alone need agree,
- * of the window none.
+ * The settings agree but in the two passwords, in form and in name; of MAIN the version's bytes alone need agree, four
+ * or eight, of the window none.
  */
 static void choose_pair(struct play *play)
 {
@@ -70,8 +70,8 @@ static void choose_pair(struct play *play)
     noise(&play->dice, pair->one.window, WINDOW_BYTES);
     noise(&play->dice, pair->other.window, WINDOW_BYTES);
     uint32_t pointer = read32(fields + POINTER_AT);
-    if (pointer <= pair->main_size - 4)
-        memcpy(pair->other.main + pointer, pair->one.main + pointer, 4);
+    if (pointer <= pair->main_size - VERSION_BYTES)
+        memcpy(pair->other.main + pointer, pair->one.main + pointer, VERSION_BYTES);
     make_image(fields, pair->one.settings);
     memcpy(play->passwords[0], fields + PASSWORD_AT, 32);
     noise(&play->dice, fields + PASSWORD_AT, RESET_MODE_AT - PASSWORD_AT);
@@ -237,17 +237,23 @@ static void guessing_cut(struct play *play)
 /* Whoever has unlocked writes settings with readout on, and starts anew. */
 static void write_settings(struct play *play)
 {
-    uint8_t core[5 + SETTINGS_BYTES] = {0x30}, fields[FIELDS_BYTES];
+    uint8_t core[5 + IMAGE_END] = {0x30}, fields[FIELDS_BYTES], settings[SETTINGS_BYTES];
     if (play->pair.one.settings[0] != 0xFF)
         send_core(play, 0, core, 1); /* Factory reset: only what is blank can be programmed */
     choose_contents(&play->dice, (uint32_t)play->pair.main_size, fields);
     write16(fields + READOUT_AT, READOUT_ON);
     core[0] = 0x20;
     write32(core + 1, SETTINGS_START);
-    make_image(fields, core + 5);
+    make_image(fields, settings);
     if (chance(&play->dice, 10))
-        core[5 + below(&play->dice, SETTINGS_BYTES)] ^= 1; /* rubbish, which the next start refuses */
+        settings[below(&play->dice, IMAGE_END)] ^= 1; /* rubbish, which the next start refuses */
+    memcpy(core + 5, settings, IMAGE_END);
     send_core(play, 0, core, sizeof core);
+    if (IS_AM13E230X && chance(&play->dice, 10)) { /* so it does something after the image */
+        write32(core + 1, SETTINGS_START + IMAGE_END);
+        send_core(play, 0, core, 5 + WORD);
+        seen(PAIR_SECOND_HALF);
+    }
     if (play->pair.on)
         start(play, 0);
 }
@@ -267,13 +273,13 @@ static void read_back(struct play *play, uint32_t address)
 {
     uint8_t core[9] = {0x29};
     write32(core + 1, address);
-    write32(core + 5, SECTOR);
+    write32(core + 5, READ_SIZE);
     send_core(play, 0, core, 9);
 }
 
 static void read_all(struct play *play)
 {
-    for (uint32_t at = 0; at < play->pair.main_size; at += SECTOR)
+    for (uint32_t at = 0; at < play->pair.main_size; at += READ_SIZE)
         read_back(play, at);
     read_back(play, WINDOW_START);
 }
@@ -359,7 +365,10 @@ bool play_agrees(uint64_t seed)
     static struct play play;
     static const enum kind kinds[] = {OPEN_BOARDS, OPEN_BOARDS,   OPEN_BOARDS, OPEN_BOARDS, ADVISED_BOARDS,
                                       ANY_BOARDS,  PASSWORD_SENT, SECTOR_KEPT, OLD_WINDOW,  SETTINGS_BEFORE_MAIN};
-    play = (struct play){.seed = seed, .kind = kinds[seed % 10], .dice = {~seed}};
+    enum kind kind = kinds[seed % 10];
+    if (kind == OLD_WINDOW && WINDOW_BYTES == 0)
+        kind = OPEN_BOARDS;
+    play = (struct play){.seed = seed, .kind = kind, .dice = {~seed}};
     choose_pair(&play);
     if (play.kind >= PASSWORD_SENT) {
         play_left_out(&play);

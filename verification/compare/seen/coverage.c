@@ -8,10 +8,12 @@ static unsigned long long edges[COMMANDS][EDGES];
 
 static const struct {
     const char *group, *label;
+    int is_here; /* this part has it */
 } points[POINTS_IN_ALL] = {
-#define POINT(name, group, label) {group, label},
-    COVERAGE_POINTS(POINT)
-#undef POINT
+#define BOTH(name, group, label) {group, label, 1},
+#define ON_MSPM0(name, group, label) {group, label, !IS_AM13E230X},
+#define ON_AM13E230X(name, group, label) {group, label, IS_AM13E230X},
+    COVERAGE_POINTS(BOTH, ON_MSPM0, ON_AM13E230X)
 };
 
 static const char *const outcome_names[OUTCOMES] = {"00", "01", "02", "03", "04",   "05",   "06", "07",
@@ -65,13 +67,23 @@ static int is_ranged(int row)
            command_codes[row] == 0x26;
 }
 
+static int has_edge(int edge)
+{
+    return WINDOW_BYTES > 0 || edge < WINDOW_OVER_START || edge > WINDOW_AT_END;
+}
+
 static void print_points(FILE *out)
 {
+    const char *group = "", *printed = "";
     size_t column = 0;
     for (int i = 0; i < POINTS_IN_ALL; i++) {
-        if (points[i].group[0] != '\0') {
-            fprintf(out, "%s%s:", i == 0 ? "" : "\n", points[i].group);
-            column = strlen(points[i].group);
+        group = points[i].group[0] != '\0' ? points[i].group : group;
+        if (!points[i].is_here)
+            continue;
+        if (group != printed) {
+            fprintf(out, "%s%s:", i == 0 ? "" : "\n", group);
+            column = strlen(group);
+            printed = group;
         }
         if (column > 90) {
             fputs("\n   ", out);
@@ -100,21 +112,25 @@ static void print_outcomes(FILE *out)
 
 static void print_edges(FILE *out)
 {
-    fprintf(out, "\n%-14s%-44s%-55s%s\n%-14s", "unlocked range", "  MAIN", "  settings", "  window", "");
+    fprintf(out, "\n%-14s%-44s%-55s%s\n%-14s", "unlocked range", "  MAIN", "  settings",
+            has_edge(WINDOW_FIRST) ? "  window" : "", "");
     for (int edge = 0; edge < EDGES; edge++)
-        fprintf(out, "%11s", edge_names[edge]);
+        if (has_edge(edge))
+            fprintf(out, "%11s", edge_names[edge]);
     for (int row = 0; row < COMMANDS; row++) {
         if (!is_ranged(row))
             continue;
         fprintf(out, "\n%-14s", name_of(row));
         for (int edge = 0; edge < EDGES; edge++)
-            fprintf(out, "%11llu", edges[row][edge]);
+            if (has_edge(edge))
+                fprintf(out, "%11llu", edges[row][edge]);
     }
     fputc('\n', out);
 }
 
 void print_coverage(FILE *out)
 {
+    fputs(PART_NAME "\n", out);
     print_points(out);
     print_outcomes(out);
     print_edges(out);
@@ -126,8 +142,9 @@ size_t print_unseen(FILE *out)
     const char *group = "";
     for (int i = 0; i < POINTS_IN_ALL; i++) {
         group = points[i].group[0] != '\0' ? points[i].group : group;
-        if (counts[i] == 0 && ++unseen)
-            fprintf(out, "not seen: %s: %s\n", group, points[i].label);
+        if ((counts[i] > 0) != points[i].is_here && ++unseen)
+            fprintf(out, "%s: %s: %s\n", points[i].is_here ? "not seen" : "seen though this part has it not", group,
+                    points[i].label);
     }
     for (int row = 0; row <= COMMANDS; row++)
         for (int outcome = 0; outcome < OUTCOMES; outcome++)
@@ -136,7 +153,7 @@ size_t print_unseen(FILE *out)
                         name_of(row), outcome_names[outcome]);
     for (int row = 0; row < COMMANDS; row++)
         for (int edge = 0; edge < EDGES; edge++)
-            if (is_ranged(row) && edges[row][edge] == 0 && ++unseen)
+            if (is_ranged(row) && has_edge(edge) && edges[row][edge] == 0 && ++unseen)
                 fprintf(out, "not seen: %s: range %s (%s)\n", name_of(row), edge_names[edge],
                         edge <= MAIN_AT_END ? "MAIN" : edge <= SETTINGS_AT_END ? "settings" : "window");
     return unseen;

@@ -4,7 +4,7 @@
 
 #include <string.h>
 
-enum { WORD = 8, PROGRAM_FRAME = 12 }; /* a packet has so many bytes beside the data */
+enum { PROGRAM_FRAME = 12 }; /* a packet has so many bytes beside the data */
 
 static bool is_written(const uint8_t *bytes, uint32_t count)
 {
@@ -43,6 +43,7 @@ struct finding look(const struct step *step, const struct side *side)
     memcpy(finding.record, side->area[AREA_RECORD], sizeof finding.record);
     if (step->kind == CALL_MEND)
         memcpy(finding.image, side->area[AREA_SETTINGS], sizeof finding.image);
+    finding.second_half = is_written(side->area[AREA_SETTINGS] + IMAGE_END, SETTINGS_BYTES - IMAGE_END);
     if (step->kind != CALL_SESSION || step->data_size <= PROGRAM_FRAME || (step->data[3] != 0x20 && step->data[3] != 0x24))
         return finding;
     uint32_t first = read32(step->data + 4), offset = first - SETTINGS_START;
@@ -51,7 +52,7 @@ struct finding look(const struct step *step, const struct side *side)
         look_at_words(&finding, side->area[AREA_MAIN], (uint32_t)step->main_size, first, (uint32_t)count);
     else if (offset < SETTINGS_BYTES && count <= SETTINGS_BYTES - offset)
         look_at_words(&finding, side->area[AREA_SETTINGS], SETTINGS_BYTES, offset, (uint32_t)count);
-    else if (first - WINDOW_START < WINDOW_BYTES && count <= WINDOW_START + WINDOW_BYTES - first)
+    else if (first >= WINDOW_START && first + count <= WINDOW_START + WINDOW_BYTES)
         finding.and_differs = and_differs(side->area[AREA_WINDOW] + (first - WINDOW_START), step->data + 8, count);
     return finding;
 }

@@ -13,6 +13,9 @@ use Rattle.settings.specs.declared.MoveAnswer.{MoveAnswer}
 use Rattle.settings.specs.declared.MoveAnswer.the-variants as move
 use Rattle.settings.specs.Answers.{Numbered, refusalNumbered, readNumbered, writeNumber, moveNumbered}
 use Rattle.settings.proofs.ReaderLaws.{refuses}
+use Rattle.settings_large.specs.declared.LargeWriteAnswer.{LargeWriteAnswer}
+use Rattle.settings_large.specs.declared.LargeWriteAnswer.the-variants as large
+use Rattle.settings_large.specs.Writer as largeWriter
 use Rattle.settings_mend.specs.declared.MendAnswer.{MendAnswer}
 use Rattle.settings_mend.specs.declared.MendAnswer.the-variants as mend
 use Rattle.settings_mend.specs.Mending.{MendTold, mendTold}
@@ -66,6 +69,18 @@ written-back write.Written = refl
 written-back write.SizeWrong = refl
 written-back write.ValueNotAllowed = refl
 written-back write.NameNotEmpty = refl
+
+-- that of the larger part
+unfoldable pub largeWrittenBy : ℕ → LargeWriteAnswer
+largeWrittenBy number =
+    pick (eqb number 3) large.SizeWrong (pick (eqb number 5) large.FormUnknown (pick (eqb number 8) large.ValueNotAllowed large.Written))
+
+pub large-written-back : (answer : LargeWriteAnswer) → largeWrittenBy (largeWriter.writeNumber answer) ≡ answer
+unfolding largeWrittenBy pick
+large-written-back large.Written = refl
+large-written-back large.SizeWrong = refl
+large-written-back large.FormUnknown = refl
+large-written-back large.ValueNotAllowed = refl
 
 -- ---- the moves
 

@@ -2,7 +2,7 @@
 -- Where areas are lent to be written, an answer is what is returned, then what is left in each area, in the order of the parameters.
 use mathlib.Core.Path.{_≡_, refl, ap}
 use mathlib.Core.Bool.{Bool}
-use mathlib.Core.List.{List}
+use mathlib.Core.List.{List, []}
 use Prim.Native.Nat.{ℕ, _-_, _/_, min}
 use lib.ListN.{length, getD, replicate}
 use lib.Seq.{sets}
@@ -12,8 +12,8 @@ use Rattle.octets.specs.Hex.{hexOf}
 use Rattle.octets.specs.Decimal.{digitsIn, decimalOf}
 use Rattle.checksum.specs.Checksum.{checksumFrom, checksumOf}
 use Rattle.parts.specs.declared.Part.{Part}
-use Rattle.parts.specs.Parts.{mspm0}
-use Rattle.line.specs.Acknowledgement.{acknowledgement}
+use Rattle.parts.specs.Parts.{mspm0, am13e230x}
+use Rattle.line.specs.Acknowledgement.{isRate, acknowledgement}
 use Rattle.line.specs.Commands.{commandOf}
 use Rattle.line.specs.declared.Reply.{Reply}
 use Rattle.line.specs.Replies.{replyBytes, Sent, sent, sentOf}
@@ -24,19 +24,25 @@ use Rattle.session_state.specs.Rates.{rateOf}
 use Rattle.session_state.specs.Waits.{passTime}
 use Rattle.settings.specs.declared.Shown.{Shown}
 use Rattle.settings.specs.declared.Settings.{Settings}
+use Rattle.settings.specs.declared.Kept.{Kept}
 use Rattle.settings.specs.Values.{isAllowed, blankSettings, noSettings}
 use Rattle.settings.specs.Layout.{form1}
 use Rattle.settings.specs.Bodies.{bodiesOf}
 use Rattle.settings.specs.Fields.{fieldsRead}
+use Rattle.settings.specs.Kept.{blankKept, noKept, keptBodies, keptRead}
 use Rattle.settings.specs.declared.Contents.{Contents}
 use Rattle.settings.specs.declared.WriteAnswer.{WriteAnswer}
 use Rattle.settings.specs.declared.MoveAnswer.{MoveAnswer}
 use Rattle.settings.specs.declared.Refusal.{Refusal}
-use Rattle.settings.specs.Answers.{numbered, refusalNumbered, readTold, settingsTold, settingsOnly, writeLeft, writeNumber, MoveLeft, moveLeft, moveNumbered}
+use Rattle.settings.specs.Answers.{numbered, refusalNumbered, readTold, SettingsTold, settingsTold, settingsOnly, writeLeft, writeNumber, MoveLeft, moveLeft, moveNumbered}
 use Rattle.settings.specs.Image.{resealed}
 use Rattle.settings.specs.Reader.{readOf, isAccepted}
 use Rattle.settings.specs.Writer.{writeOf}
 use Rattle.settings.specs.Moves.{movedToOne, movedToTwo}
+use Rattle.settings_large.specs.declared.LargeContents.{LargeContents}
+use Rattle.settings_large.specs.declared.LargeWriteAnswer.{LargeWriteAnswer}
+use Rattle.settings_large.specs.Reader as largeReader
+use Rattle.settings_large.specs.Writer as largeWriter
 use Rattle.settings_mend.specs.declared.MendAnswer.{MendAnswer}
 use Rattle.settings_mend.specs.Examining.{examinedOf}
 use Rattle.settings_mend.specs.Mending.{mendLeft, mendTold, mendOf}
@@ -63,13 +69,14 @@ use Rattle.session_in_place.specs.Starting.{startLeft, startInPlace}
 use Rattle.c_records.specs.OneNumber.{refusalOf}
 use Rattle.c_records.specs.Stored.{Stored, stored}
 use Rattle.c_records.specs.SettingsFromC.{readFromC, writeFromC, toOneFromC, toTwoFromC}
+use Rattle.c_records.specs.LargeFromC.{readLargeFromC, writeLargeFromC}
 use Rattle.c_records.specs.MendFromC.{mendStored, mendFromC}
 use Rattle.c_records.specs.Boundary as rig
 use Rattle.runner_text.specs.Form.{scriptTold, scriptOf, waitIn, packetIn}
 use Rattle.runner_text.specs.Writing.{lineOf, Written, written, writtenOf}
 use Rattle.runner_text.specs.EndLine.{endOf}
 use Rattle.claims.proofs.Answers.OneAnswer.{OneAnswer, given-back, as-said}
-use Rattle.claims.proofs.Answers.NumberedAnswers.{readBy, read-back, writtenBy, written-back, movedBy, moved-back, mendedBy, mended-back, startedBy, started-back, calledBy, called-back, scriptBy, script-back}
+use Rattle.claims.proofs.Answers.NumberedAnswers.{readBy, read-back, writtenBy, written-back, largeWrittenBy, large-written-back, movedBy, moved-back, mendedBy, mended-back, startedBy, started-back, calledBy, called-back, scriptBy, script-back}
 
 -- ---- octets: bytes read and compared
 
@@ -141,7 +148,13 @@ put-decimal-is-one area at number = as-said (sets area at (decimalOf number))
 pub mspm0-part-is-one : OneAnswer (λ r. r ≡ mspm0)
 mspm0-part-is-one = as-said mspm0
 
+pub am13e230x-part-is-one : OneAnswer (λ r. r ≡ am13e230x)
+am13e230x-part-is-one = as-said am13e230x
+
 -- ---- line: packets
+
+pub is-rate-is-one : (lastRate id : ℕ) → OneAnswer (λ r. r ≡ isRate lastRate id)
+is-rate-is-one lastRate id = as-said (isRate lastRate id)
 
 pub acknowledge-is-one : (lastRate : ℕ) (packet : List ℕ) → OneAnswer (λ r. r ≡ acknowledgement lastRate packet)
 acknowledge-is-one lastRate packet = as-said (acknowledgement lastRate packet)
@@ -181,6 +194,12 @@ blank-is-one = as-said blankSettings
 pub none-is-one : OneAnswer (λ r. r ≡ noSettings)
 none-is-one = as-said noSettings
 
+pub blank-kept-is-one : OneAnswer (λ r. r ≡ blankKept)
+blank-kept-is-one = as-said blankKept
+
+pub none-kept-is-one : OneAnswer (λ r. r ≡ noKept)
+none-kept-is-one = as-said noKept
+
 -- ---- settings: fields
 
 pub read-fields-is-one : (fields : List ℕ) → OneAnswer (λ r. r ≡ fieldsRead form1 fields)
@@ -188,6 +207,12 @@ read-fields-is-one fields = as-said (fieldsRead form1 fields)
 
 pub put-fields-is-one : (area : List ℕ) (at : ℕ) (settings : Settings) → OneAnswer (λ area'. area' ≡ sets area at (bodiesOf settings))
 put-fields-is-one area at settings = as-said (sets area at (bodiesOf settings))
+
+pub read-kept-is-one : (fields : List ℕ) → OneAnswer (λ r. r ≡ keptRead fields)
+read-kept-is-one fields = as-said (keptRead fields)
+
+pub put-kept-is-one : (area : List ℕ) (at : ℕ) (kept : Kept) → OneAnswer (λ area'. area' ≡ sets area at (keptBodies kept))
+put-kept-is-one area at kept = as-said (sets area at (keptBodies kept))
 
 -- ---- settings: the image
 
@@ -197,11 +222,13 @@ read-is-one image =
     (λ r. ap (λ answer. record { answer = answer; contents = r .contents }) (read-back (r .answer)))
     (readOf image)
 
-pub read-settings-is-one : (image : List ℕ) → OneAnswer (λ r. settingsTold r ≡ settingsOnly (readOf image))
-read-settings-is-one image =
+settings-told-is-one : (value : SettingsTold) → OneAnswer (λ r. settingsTold r ≡ value)
+settings-told-is-one =
     given-back settingsTold (λ told. record { answer = readBy (numbered (told .number) (told .entry)); settings = told .settings })
     (λ r. ap (λ answer. record { answer = answer; settings = r .settings }) (read-back (r .answer)))
-    (settingsOnly (readOf image))
+
+pub read-settings-is-one : (image : List ℕ) → OneAnswer (λ r. settingsTold r ≡ settingsOnly (readOf image))
+read-settings-is-one image = settings-told-is-one (settingsOnly (readOf image))
 
 pub accepts-is-one : (image : List ℕ) → OneAnswer (λ r. r ≡ isAccepted image)
 accepts-is-one image = as-said (isAccepted image)
@@ -224,6 +251,24 @@ to-form-1-is-one image = moving-is-one (movedToOne image)
 
 pub to-form-2-is-one : (image : List ℕ) → OneAnswer {A = MoveAnswer × List ℕ} (λ r. moveLeft (moveNumbered (r .0)) (r .1) ≡ movedToTwo image)
 to-form-2-is-one image = moving-is-one (movedToTwo image)
+
+-- ---- settings_large
+
+pub large-read-is-one : (image : List ℕ) → OneAnswer (λ r. largeReader.readTold r ≡ largeReader.readOf image)
+large-read-is-one image =
+    given-back largeReader.readTold (λ told. record { answer = readBy (numbered (told .number) (told .entry)); contents = told .contents })
+    (λ r. ap (λ answer. record { answer = answer; contents = r .contents }) (read-back (r .answer)))
+    (largeReader.readOf image)
+
+pub large-read-settings-is-one : (image : List ℕ) → OneAnswer (λ r. settingsTold r ≡ largeReader.settingsOnly (largeReader.readOf image))
+large-read-settings-is-one image = settings-told-is-one (largeReader.settingsOnly (largeReader.readOf image))
+
+pub large-write-is-one : (contents : LargeContents) (image : List ℕ)
+    → OneAnswer {A = LargeWriteAnswer × List ℕ} (λ r. writeLeft (largeWriter.writeNumber (r .0)) (r .1) ≡ largeWriter.writeOf contents image)
+large-write-is-one contents image =
+    given-back (λ r. writeLeft (largeWriter.writeNumber (r .0)) (r .1)) (λ l. (largeWrittenBy (l .number), l .image))
+    (λ r. ap (λ answer. (answer, r .1)) (large-written-back (r .0)))
+    (largeWriter.writeOf contents image)
 
 -- ---- settings_mend
 
@@ -314,6 +359,20 @@ pub mspm0-call-is-one : (session : Session) (main image window : List ℕ) (wait
     (λ r. callLeft (r .0) (memory (r .1) (r .2) (r .3)) (r .4) ≡ callOf mspm0 session (memory main image window) wait packet area)
 mspm0-call-is-one = call-is-one mspm0
 
+-- ---- am13e230x
+
+pub am13e230x-start-is-one : (fuse : Bool) (main image : List ℕ) → OneAnswer (λ r. startTold r ≡ startOf am13e230x fuse main image [])
+am13e230x-start-is-one fuse main image = start-is-one am13e230x fuse main image []
+
+pub am13e230x-call-is-one : (session : Session) (main image : List ℕ) (wait : ℕ) (packet area : List ℕ)
+    → OneAnswer {A = Called × List ℕ × List ℕ × List ℕ}
+    (λ r. callLeft (r .0) (memory (r .1) (r .2) []) (r .3) ≡ callOf am13e230x session (memory main image []) wait packet area)
+am13e230x-call-is-one session main image wait packet area =
+    given-back (λ r. callLeft (r .0) (memory (r .1) (r .2) []) (r .3))
+    (λ l. (record { answer = calledBy (l .answer); session = l .session }, l .memory .main, l .memory .settings, l .area))
+    (λ r. ap (λ answer. (record { answer = answer; session = r .0 .session }, r .1, r .2, r .3)) (called-back (r .0 .answer)))
+    (callOf am13e230x session (memory main image []) wait packet area)
+
 -- ---- session_in_place
 
 pub in-place-start-is-one : (session : Session) (fuse : Bool) (main image window : List ℕ)
@@ -361,6 +420,12 @@ pub mend-image-is-one : (image counts : List ℕ) → OneAnswer {A = ℕ × List
 mend-image-is-one image counts =
     given-back (λ r. mendStored (r .0) (r .1) (r .2)) (λ s. (s .answer, s .image, s .counts)) (λ r. refl) (mendFromC image counts)
 
+pub read-large-image-is-one : (image fields : List ℕ) → OneAnswer {A = ℕ × List ℕ} (λ r. stored (r .0) (r .1) ≡ readLargeFromC image fields)
+read-large-image-is-one image fields = stored-is-one (readLargeFromC image fields)
+
+pub write-large-image-is-one : (fields image : List ℕ) → OneAnswer {A = ℕ × List ℕ} (λ r. stored (r .0) (r .1) ≡ writeLargeFromC fields image)
+write-large-image-is-one fields image = stored-is-one (writeLargeFromC fields image)
+
 -- ---- c_records: sessions
 
 pub start-record-is-one : (part : Part) (fuse : ℕ) (main settings window area : List ℕ)
@@ -403,6 +468,29 @@ pub bhorelmu-call-is-one : (area main settings window : List ℕ) (wait : ℕ) (
     → OneAnswer {A = ℕ × List ℕ × List ℕ × List ℕ × List ℕ × List ℕ}
     (λ r. rig.called (r .0) (r .1) (memory (r .2) (r .3) (r .4)) (r .5) ≡ rig.callFromC mspm0 area (memory main settings window) wait packet reply)
 bhorelmu-call-is-one = call-record-is-one mspm0
+
+-- ---- c_am13e230x
+
+pub bhorelmu-am13e230x-rate-is-one : (id : ℕ) → OneAnswer (λ r. r ≡ rig.rateFromC am13e230x id)
+bhorelmu-am13e230x-rate-is-one = rate-by-id-is-one am13e230x
+
+pub bhorelmu-am13e230x-settings-read-is-one : (image fields : List ℕ) → OneAnswer {A = ℕ × List ℕ} (λ r. stored (r .0) (r .1) ≡ readLargeFromC image fields)
+bhorelmu-am13e230x-settings-read-is-one = read-large-image-is-one
+
+pub bhorelmu-am13e230x-settings-write-is-one : (fields image : List ℕ) → OneAnswer {A = ℕ × List ℕ} (λ r. stored (r .0) (r .1) ≡ writeLargeFromC fields image)
+bhorelmu-am13e230x-settings-write-is-one = write-large-image-is-one
+
+pub bhorelmu-am13e230x-start-is-one : (fuse : ℕ) (main settings area : List ℕ)
+    → OneAnswer {A = ℕ × List ℕ} (λ r. stored (r .0) (r .1) ≡ rig.startFromC am13e230x fuse main settings [] area)
+bhorelmu-am13e230x-start-is-one fuse main settings area = start-record-is-one am13e230x fuse main settings [] area
+
+pub bhorelmu-am13e230x-call-is-one : (area main settings : List ℕ) (wait : ℕ) (packet reply : List ℕ)
+    → OneAnswer {A = ℕ × List ℕ × List ℕ × List ℕ × List ℕ}
+    (λ r. rig.called (r .0) (r .1) (memory (r .2) (r .3) []) (r .4) ≡ rig.callFromC am13e230x area (memory main settings []) wait packet reply)
+bhorelmu-am13e230x-call-is-one area main settings wait packet reply =
+    given-back (λ r. rig.called (r .0) (r .1) (memory (r .2) (r .3) []) (r .4))
+    (λ l. (l .answer, l .area, l .memory .main, l .memory .settings, l .reply)) (λ r. refl)
+    (rig.callFromC am13e230x area (memory main settings []) wait packet reply)
 
 -- ---- runner_text: scripts
 

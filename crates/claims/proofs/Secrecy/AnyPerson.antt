@@ -5,17 +5,16 @@ use mathlib.Core.Bool.{false}
 use mathlib.Core.List.{List, [], _∷_}
 use Prim.Native.Nat.{ℕ, zero, suc}
 use Rattle.parts.specs.declared.Part.{Part}
-use Rattle.parts.specs.Parts.{mspm0, Sound}
-use Rattle.parts.proofs.PartLaws.{mspm0-is-sound}
+use Rattle.parts.specs.Parts.{mspm0, am13e230x, Sound}
+use Rattle.parts.proofs.PartLaws.{mspm0-is-sound, am13e230x-is-sound}
 use Rattle.session_state.specs.Phases.{atStart}
-use Rattle.c_records.specs.Records.{recordOf}
 use Rattle.session.specs.Starting.{startOf}
 use Rattle.claims.specs.TwoBoards.{Images, Running, started, AlikeBoards, Sending, WithoutPassword, called, next, Flash, AlikeThroughout}
 use Rattle.claims.specs.TwoBoardsFromC.{RunningFromC, startedFromC, Lent, calledFromC, nextFromC, lockIn, wrongIn, AlikeCallsFromC, AlikeSessionsFromC}
 use Rattle.claims.specs.Visits.{Person, Step, Visit, visited, AllWithout, AlikeVisits, Seen, stepOf, visitOne, visitOther, StandAlike, SeenFromC, stepFromC, visitOneFromC, visitOtherFromC, StandAlikeFromC}
 use Rattle.claims.proofs.Secrecy.LockedBoard.{later, flash-is-as-claimed, started-is-later, started-is-locked}
 use Rattle.claims.proofs.Secrecy.ToldApart.{two-boards-are-alike}
-use Rattle.claims.proofs.Secrecy.ToldApartFromC.{fromC, lock-is-0, started-from-C, two-boards-are-alike-from-C}
+use Rattle.claims.proofs.Secrecy.ToldApartFromC.{fromC, lock-is-0, wrong-is, started-from-C, two-boards-are-alike-from-C}
 
 module _ (part : Part) (sound : Sound part) where
   -- ---- boards that are alike and stay so by every call without a password, however they are called
@@ -75,7 +74,7 @@ module _ (part : Part) (sound : Sound part) where
             rw (started-is-later part one (alike .oneStarts), started-is-later part other (alike .otherStarts))
             (record {
               standing = refl;
-              locked = started-is-locked part one (alike .oneStarts) sound .shut;
+              locked = started-is-locked part one (alike .oneStarts) .shut;
               oneFlash = flash-is-as-claimed part one atStart;
               otherFlash = flash-is-as-claimed part other atStart;
             });
@@ -102,15 +101,14 @@ module _ (part : Part) (sound : Sound part) where
         )
 
   -- a board that starts: its record says that it is locked, and its flash is as claimed
-  module _ (images : Images) (area : List ℕ) (lent : Lent images area) (starts : startOf part false (images .main) (images .settings) (images .window) .answer .number ≡ 0) where
+  module _ (images : Images) (area : List ℕ) (lent : Lent part images area) (starts : startOf part false (images .main) (images .settings) (images .window) .answer .number ≡ 0) where
     starts-as-claimed : (lockIn (startedFromC part images area .area) ≡ 0) × Flash part images (wrongIn (startedFromC part images area .area)) (startedFromC part images area .memory)
-    unfolding recordOf
     starts-as-claimed =
         subst (λ (board : RunningFromC). (lockIn (board .area) ≡ 0) × Flash part images (wrongIn (board .area)) (board .memory))
-        (sym (started-from-C part sound images area lent starts ∙ ap fromC (started-is-later part images starts)))
-        (lock-is-0 (later part images atStart .session) (started-is-locked part images starts sound .shut), flash-is-as-claimed part images atStart)
+        (sym (started-from-C part sound images area lent starts ∙ ap (fromC part) (started-is-later part images starts)))
+        (lock-is-0 part (later part images atStart .session) (started-is-locked part images starts .shut), subst (λ (wrong : ℕ). Flash part images wrong (later part images atStart .memory)) (sym (wrong-is part (later part images atStart .session))) (flash-is-as-claimed part images atStart))
 
-  pub no-person-tells-boards-apart-from-C : (one other : Images) (oneArea otherArea : List ℕ) → AlikeBoards part one other → Lent one oneArea → Lent other otherArea
+  pub no-person-tells-boards-apart-from-C : (one other : Images) (oneArea otherArea : List ℕ) → AlikeBoards part one other → Lent part one oneArea → Lent part other otherArea
       → (person : Person SeenFromC) (calls : ℕ) → AllWithout part one other (visitOneFromC part person one oneArea calls .sent)
       → AlikeVisits (StandAlikeFromC part one other) (visitOneFromC part person one oneArea calls) (visitOtherFromC part person other otherArea calls)
   no-person-tells-boards-apart-from-C one other oneArea otherArea alike oneLent otherLent person calls without =
@@ -139,7 +137,20 @@ pub no-person-tells-mspm0-boards-apart : (one other : Images) → AlikeBoards ms
     → AlikeVisits (StandAlike mspm0 one other) (visitOne mspm0 person one calls) (visitOther mspm0 person other calls)
 no-person-tells-mspm0-boards-apart = no-person-tells-boards-apart mspm0 mspm0-is-sound
 
-pub no-person-tells-mspm0-boards-apart-from-C : (one other : Images) (oneArea otherArea : List ℕ) → AlikeBoards mspm0 one other → Lent one oneArea → Lent other otherArea
+pub no-person-tells-mspm0-boards-apart-from-C : (one other : Images) (oneArea otherArea : List ℕ) → AlikeBoards mspm0 one other → Lent mspm0 one oneArea → Lent mspm0 other otherArea
     → (person : Person SeenFromC) (calls : ℕ) → AllWithout mspm0 one other (visitOneFromC mspm0 person one oneArea calls .sent)
     → AlikeVisits (StandAlikeFromC mspm0 one other) (visitOneFromC mspm0 person one oneArea calls) (visitOtherFromC mspm0 person other otherArea calls)
 no-person-tells-mspm0-boards-apart-from-C = no-person-tells-boards-apart-from-C mspm0 mspm0-is-sound
+
+-- ---- two boards of the AM13E230x
+
+pub no-person-tells-am13e230x-boards-apart : (one other : Images) → AlikeBoards am13e230x one other → (person : Person Seen) (calls : ℕ)
+    → AllWithout am13e230x one other (visitOne am13e230x person one calls .sent)
+    → AlikeVisits (StandAlike am13e230x one other) (visitOne am13e230x person one calls) (visitOther am13e230x person other calls)
+no-person-tells-am13e230x-boards-apart = no-person-tells-boards-apart am13e230x am13e230x-is-sound
+
+pub no-person-tells-am13e230x-boards-apart-from-C : (one other : Images) (oneArea otherArea : List ℕ) → AlikeBoards am13e230x one other
+    → Lent am13e230x one oneArea → Lent am13e230x other otherArea
+    → (person : Person SeenFromC) (calls : ℕ) → AllWithout am13e230x one other (visitOneFromC am13e230x person one oneArea calls .sent)
+    → AlikeVisits (StandAlikeFromC am13e230x one other) (visitOneFromC am13e230x person one oneArea calls) (visitOtherFromC am13e230x person other otherArea calls)
+no-person-tells-am13e230x-boards-apart-from-C = no-person-tells-boards-apart-from-C am13e230x am13e230x-is-sound

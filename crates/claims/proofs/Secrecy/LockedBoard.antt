@@ -11,6 +11,7 @@ use Rattle.parts.specs.declared.Part.{Part}
 use Rattle.parts.specs.Parts.{Sound}
 use Rattle.session_state.specs.declared.Standing.{Standing}
 use Rattle.session_state.specs.Phases.{atStart, isUnlocked}
+use Rattle.settings.specs.declared.Shown.{Shown}
 use Rattle.flash.specs.Memory.{Memory, memory}
 use Rattle.flash.specs.Erasing.{eraseAllOf}
 use Rattle.flash.proofs.ErasingLaws.{erase-all-keeps-length, erase-all-at, erase-all-twice}
@@ -18,7 +19,7 @@ use Rattle.session_judge.specs.Unlocking.{alertReset}
 use Rattle.session_act.specs.Board.{Board, board, settingsProtection}
 use Rattle.session_act.specs.declared.Order.the-variants.{EraseBoth}
 use Rattle.session_act.specs.Orders.{carriedOut}
-use Rattle.session_act.specs.Info.{versionAt}
+use Rattle.session_act.specs.Info.{versionOf}
 use Rattle.session_act.proofs.LockedLaws.{erased-versions-alike}
 use Rattle.session.specs.declared.Session.{Session}
 use Rattle.session.specs.Records.{isRecord}
@@ -51,11 +52,11 @@ module _ (size : ℕ) (protection image : List ℕ) where
   struck-again false = refl
 
 -- images of one length that publish the same version do so before and after
-pub versions-stay-alike : (part : Part) → Sound part → (pointer : ℕ) (protection one other : List ℕ) → length one ≡ length other → versionAt pointer one ≡ versionAt pointer other
-    → (struck : Bool) → versionAt pointer (imageThen (part .«sector_size») struck protection one) ≡ versionAt pointer (imageThen (part .«sector_size») struck protection other)
+pub versions-stay-alike : (part : Part) → Sound part → (shown : Shown) (protection one other : List ℕ) → length one ≡ length other → versionOf part shown one ≡ versionOf part shown other
+    → (struck : Bool) → versionOf part shown (imageThen (part .«sector_size») struck protection one) ≡ versionOf part shown (imageThen (part .«sector_size») struck protection other)
 unfolding imageThen pick
-versions-stay-alike part sound pointer protection one other size same true = erased-versions-alike part sound pointer protection one other size same
-versions-stay-alike part sound pointer protection one other size same false = same
+versions-stay-alike part sound shown protection one other size same true = erased-versions-alike part sound (shown .«version_pointer») protection one other size same
+versions-stay-alike part sound shown protection one other size same false = same
 
 -- ---- a board, by its start and by how it stands
 
@@ -128,11 +129,11 @@ module _ (part : Part) where
           (started-session part false (images .main) (images .settings) (images .window) starts)
           (ap (memoryThen images) (sym not-struck-at-start))
 
-      pub started-is-locked : Sound part → Locked images atStart
+      pub started-is-locked : Locked images atStart
       unfolding atStart
-      started-is-locked sound =
+      started-is-locked =
           record {
-            valid = subst HasRecord started-is-later (started-is-valid part false (images .main) (images .settings) (images .window) sound starts);
+            valid = subst HasRecord started-is-later (started-is-valid part false (images .main) (images .settings) (images .window) starts);
             window = started-has-window part false (images .main) (images .settings) (images .window) starts;
             shut = refl;
           }

@@ -1,7 +1,7 @@
 -- A call on a locked board, by a packet without its password: all that it leaves follows from the board's start and from how it stands.
 use mathlib.Core.Path.{_≡_, refl, sym, ap, ap₂, subst, _∙_}
 use mathlib.Core.Bool.{Bool, true, false, true≢false}
-use mathlib.Core.List.{List, []}
+use mathlib.Core.List.{List}
 use Prim.Native.Nat.{ℕ, _≤_}
 use borrow.Author.Tests.{eq-eqb, eqb-true}
 use lib.Dec.{eqb}
@@ -9,7 +9,6 @@ use lib.ListN.{length}
 use Rattle.octets.specs.Choice.{pick}
 use Rattle.octets.proofs.Searching.{pick-true, pick-false, by-test}
 use Rattle.parts.specs.declared.Part.{Part}
-use Rattle.parts.specs.Parts.{Sound}
 use Rattle.line.specs.Codes.{replyLimit}
 use Rattle.line.specs.Replies.{replyBytes, Sent}
 use Rattle.session_state.specs.declared.Standing.{Standing}
@@ -25,13 +24,14 @@ use Rattle.session_judge.proofs.JudgeLaws.{wrong-never-unlocks, locked-performs
 use Rattle.session_judge.proofs.StrangerLaws.{only-unlock-is-compared, no-third-without-strike}
 use Rattle.session_act.specs.declared.Planned.{Planned}
 use Rattle.session_act.specs.Board.{Acted}
-use Rattle.session_act.proofs.LockedLaws.{locked-shows-nothing, only-strikes-change}
+use Rattle.session_act.proofs.PlanLaws.{bytes-need-no-order}
+use Rattle.session_act.proofs.LockedLaws.{only-strikes-change}
 use Rattle.session_send.specs.Answering.{hushed, answerOf}
 use Rattle.session_send.proofs.AnsweringLaws.{whole}
 use Rattle.session.specs.CallAnswers.{Left, left, callTold}
 use Rattle.session.specs.Calling.{carriesReset, judgement, intent, deed, followed, serveOf}
 use Rattle.session.proofs.RecordLaws.{record-by-clauses}
-use Rattle.session.proofs.ToldLaws.{plan-is-told-whole}
+use Rattle.session.proofs.ToldLaws.{plan-is-told-whole, toldIn}
 use Rattle.claims.specs.TwoBoards.{Images, settingsOf, Carries, Sending, called, next, isStruck}
 use Rattle.claims.proofs.Sessions.CallRules.{not-found, valid-is-served, valid-stays-valid}
 use Rattle.claims.proofs.Secrecy.LockedBoard.{alertOf, lets, memoryThen, sessionThen, later, HasRecord, Locked, strike-erases}
@@ -41,12 +41,16 @@ module _ (part : Part) where
   abbrev pub verdict : Images → Standing → Sending → Judged
   verdict images standing sending = judgedOf (part .«last_rate») standing (alertOf images) (sending .wait) (sending .packet) false
 
-  -- what the board does then, and the bytes that it sends
+  -- what the board plans and does then, and the bytes that it sends
+  abbrev intentThen : Images → Standing → Sending → Effect → Planned
+  intentThen images standing sending effect = intent part (sessionThen images standing) (sending .packet) (later part images standing .memory) effect
+
   abbrev pub deedThen : Images → Standing → Sending → Effect → Acted
   deedThen images standing sending effect = deed part (sessionThen images standing) (sending .packet) (later part images standing .memory) effect
 
   abbrev pub bytesThen : Images → Standing → Sending → Effect → List ℕ
-  bytesThen images standing sending effect = replyBytes (hushed (sending .packet) (deedThen images standing sending effect .reply)) []
+  bytesThen images standing sending effect =
+      toldIn (sending .packet) (later part images standing .memory) (intentThen images standing sending effect)
 
   -- all that the call leaves
   abbrev pub leftThen : Images → Standing → Sending → List ℕ → Judged → Left
@@ -104,9 +108,9 @@ module _ (part : Part) where
       does = deedThen images standing sending (decided .effect)
 
       abbrev plans : Planned
-      plans = intent part (sessionThen images standing) (sending .packet) (later part images standing .memory) (decided .effect)
+      plans = intentThen images standing sending (decided .effect)
 
-      -- the reply is sent whole, with no bytes of memory beside it
+      -- the reply is sent whole, and the bytes beside it are those of before the order
       told-whole : answerOf (does .reply) (plans .region) (plans .offset) (plans .count) (sending .packet) (does .memory) area
           ≡ whole (bytesThen images standing sending (decided .effect)) area
       told-whole =
@@ -114,7 +118,7 @@ module _ (part : Part) where
           let before = later part images standing .memory in
           plan-is-told-whole part (length (images .main)) (settingsOf images .shown) (settingsOf images .protection) right before (does .memory) (decided .effect) (sending .packet) area room
           ∙ ap (λ (beside : List ℕ). whole (replyBytes (hushed (sending .packet) (does .reply)) beside) area)
-          (locked-shows-nothing part (length (images .main)) (settingsOf images .shown) (settingsOf images .protection) right before (does .memory) (decided .effect) performs-nothing)
+          (bytes-need-no-order part (settingsOf images .shown) (settingsOf images .protection) (sending .packet) before (length (images .main)) right (decided .effect))
 
       -- all that the call leaves follows from the verdict
       pub call-is : called part (later part images standing) sending area ≡ leftThen images standing sending area (verdict images standing sending)
@@ -133,11 +137,11 @@ module _ (part : Part) where
           (λ n. n)
 
       -- the board stands as the next call wants it
-      pub stays-locked : Sound part → Locked part images (verdict images standing sending .standing)
-      stays-locked sound = record {
+      pub stays-locked : Locked part images (verdict images standing sending .standing)
+      stays-locked = record {
         valid =
             subst (λ (left : Left). HasRecord part (next left)) call-is
-            (valid-stays-valid part (sessionThen images standing) (later part images standing .memory) (sending .wait) (sending .packet) area sound (locked .valid));
+            (valid-stays-valid part (sessionThen images standing) (later part images standing .memory) (sending .wait) (sending .packet) area (locked .valid));
         window = locked .window;
         shut = stays-shut;
       }

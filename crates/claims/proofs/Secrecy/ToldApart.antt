@@ -7,10 +7,8 @@ use Prim.Native.Nat.{ℕ}
 use lib.ListN.{length}
 use lib.Seq.{take-append-seam}
 use Rattle.parts.specs.declared.Part.{Part}
-use Rattle.parts.specs.Parts.{mspm0, Sound}
-use Rattle.parts.proofs.PartLaws.{mspm0-is-sound}
-use Rattle.line.specs.declared.Reply.{Reply}
-use Rattle.line.specs.Replies.{replyBytes}
+use Rattle.parts.specs.Parts.{mspm0, am13e230x, Sound}
+use Rattle.parts.proofs.PartLaws.{mspm0-is-sound, am13e230x-is-sound}
 use Rattle.session_state.specs.declared.Standing.{Standing}
 use Rattle.session_state.specs.Phases.{atStart, isUnlocked}
 use Rattle.settings.specs.declared.Shown.{Shown}
@@ -18,12 +16,11 @@ use Rattle.session_judge.specs.declared.Effect.{Effect}
 use Rattle.session_judge.specs.declared.Judged.{Judged}
 use Rattle.session_judge.proofs.EffectTests.{isPerformed}
 use Rattle.session_judge.specs.Hearing.{judgedOf}
-use Rattle.session_act.specs.Info.{versionAt}
-use Rattle.session_act.proofs.LockedLaws.{told-alike}
-use Rattle.session_send.specs.Answering.{hushed}
+use Rattle.session_act.specs.Info.{versionOf}
 use Rattle.session.specs.CallAnswers.{callTold}
+use Rattle.session.proofs.ToldLaws.{told-alike}
 use Rattle.claims.specs.TwoBoards.{Images, settingsOf, started, AlikeBoards, Sending, WithoutPassword, called, isStruck, Alike, AlikeThroughout}
-use Rattle.claims.proofs.Secrecy.LockedBoard.{imageThen, versions-stay-alike, alertOf, lets, later, Locked, flash-is-as-claimed, started-is-later, started-is-locked}
+use Rattle.claims.proofs.Secrecy.LockedBoard.{imageThen, versions-stay-alike, alertOf, later, Locked, flash-is-as-claimed, started-is-later, started-is-locked}
 use Rattle.claims.proofs.Secrecy.LockedCall.{verdict, bytesThen, leftThen, performs-nothing, call-is, stays-locked}
 
 module _ (part : Part) (sound : Sound part) where
@@ -44,12 +41,12 @@ module _ (part : Part) (sound : Sound part) where
 
     -- the version that is published stays the same, also where the alert has struck
     version-alike : (standing : Standing)
-        → versionAt (settingsOf one .shown .«version_pointer») (later part one standing .memory .main)
-        ≡ versionAt (settingsOf other .shown .«version_pointer») (later part other standing .memory .main)
+        → versionOf part (settingsOf one .shown) (later part one standing .memory .main)
+        ≡ versionOf part (settingsOf other .shown) (later part other standing .memory .main)
     version-alike standing =
-        let same = alike .version ∙ ap (λ (shown : Shown). versionAt (shown .«version_pointer») (other .main)) (sym (alike .shown)) in
-        versions-stay-alike part sound _ (settingsOf one .protection) (one .main) (other .main) (alike .size) same (isStruck (alertOf one) (standing .wrong))
-        ∙ ap₂ (λ (shown : Shown) (protection : List ℕ). versionAt (shown .«version_pointer») (imageThen (part .«sector_size») (isStruck (shown .alert) (standing .wrong)) protection (other .main)))
+        let same = alike .version ∙ ap (λ (shown : Shown). versionOf part shown (other .main)) (sym (alike .shown)) in
+        versions-stay-alike part sound (settingsOf one .shown) (settingsOf one .protection) (one .main) (other .main) (alike .size) same (isStruck (alertOf one) (standing .wrong))
+        ∙ ap₂ (λ (shown : Shown) (protection : List ℕ). versionOf part shown (imageThen (part .«sector_size») (isStruck (shown .alert) (standing .wrong)) protection (other .main)))
         (alike .shown) (alike .protection)
 
     -- ---- one call
@@ -58,8 +55,7 @@ module _ (part : Part) (sound : Sound part) where
       -- the same effect is told in the same bytes
       bytes-alike : (effect : Effect) → isPerformed effect ≡ false → bytesThen part one standing sending effect ≡ bytesThen part other standing sending effect
       bytes-alike effect nothing =
-          ap (λ (reply : Reply). replyBytes (hushed (sending .packet) reply) [])
-          (told-alike (lets part one) (lets part other) _ _ (sending .packet) _ _ (alike .shown) (version-alike standing) effect nothing)
+          told-alike (sending .packet) part _ _ (settingsOf one .shown) (settingsOf other .shown) _ _ _ _ (later part one standing .memory) (later part other standing .memory) (alike .shown) (version-alike standing) effect nothing
 
       -- what two calls leave that decide alike
       left-alike : (judged : Judged) → isPerformed (judged .effect) ≡ false → isUnlocked (judged .standing .phase) ≡ false
@@ -92,10 +88,10 @@ module _ (part : Part) (sound : Sound part) where
 
       pub stay-together : Together one other (decided .standing)
       stay-together = record {
-        oneLocked = stays-locked part one standing (together .oneLocked) sending (sending .oneArea) (without .notOne) (without .oneRoom) sound;
+        oneLocked = stays-locked part one standing (together .oneLocked) sending (sending .oneArea) (without .notOne) (without .oneRoom);
         otherLocked =
             subst (λ (judged : Judged). Locked part other (judged .standing)) (verdict-alike standing sending)
-            (stays-locked part other standing (together .otherLocked) sending (sending .otherArea) (without .notOther) (without .otherRoom) sound);
+            (stays-locked part other standing (together .otherLocked) sending (sending .otherArea) (without .notOther) (without .otherRoom));
       }
 
       pub call-alike : Alike part one other (called part (later part one standing) sending (sending .oneArea)) (called part (later part other standing) sending (sending .otherArea))
@@ -120,9 +116,14 @@ module _ (part : Part) (sound : Sound part) where
   two-boards-are-alike one other alike sendings =
       rw (started-is-later part one (alike .oneStarts), started-is-later part other (alike .otherStarts))
       (alike-from one other alike sendings atStart
-      (record { oneLocked = started-is-locked part one (alike .oneStarts) sound; otherLocked = started-is-locked part other (alike .otherStarts) sound }))
+      (record { oneLocked = started-is-locked part one (alike .oneStarts); otherLocked = started-is-locked part other (alike .otherStarts) }))
 
 -- two boards of the MSPM0
 pub mspm0-boards-are-alike : (one other : Images) → AlikeBoards mspm0 one other → (sendings : List Sending)
     → AlikeThroughout mspm0 one other (started mspm0 one) (started mspm0 other) sendings
 mspm0-boards-are-alike = two-boards-are-alike mspm0 mspm0-is-sound
+
+-- T-10: two boards of the AM13E230x, which publish eight version bytes
+pub am13e230x-boards-are-alike : (one other : Images) → AlikeBoards am13e230x one other → (sendings : List Sending)
+    → AlikeThroughout am13e230x one other (started am13e230x one) (started am13e230x other) sendings
+am13e230x-boards-are-alike = two-boards-are-alike am13e230x am13e230x-is-sound

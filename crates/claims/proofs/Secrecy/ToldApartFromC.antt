@@ -1,5 +1,5 @@
 -- Demand 3 as C sees it. A record area says all of its session, so what holds of two boards by their sessions holds of them by their areas.
-use mathlib.Core.Path.{_≡_, refl, sym, ap, ap₂, _∙_}
+use mathlib.Core.Path.{_≡_, refl, sym, ap, ap₂, subst, _∙_}
 use mathlib.Core.Bool.{Bool, true, false, true≢false, not}
 use mathlib.Core.List.{List, [], _∷_, _++_}
 use Prim.Native.Nat.{ℕ, _%_, _≤_, _<_}
@@ -10,18 +10,17 @@ use Rattle.octets.specs.Choice.{pick}
 use Rattle.octets.specs.Number.{bytesOf}
 use Rattle.octets.proofs.Searching.{pick-true, pick-false}
 use Rattle.parts.specs.declared.Part.{Part}
-use Rattle.parts.specs.Parts.{mspm0, Sound}
-use Rattle.parts.proofs.PartLaws.{mspm0-is-sound}
+use Rattle.parts.specs.Parts.{mspm0, am13e230x, Sound}
+use Rattle.parts.proofs.PartLaws.{mspm0-is-sound, am13e230x-is-sound}
 use Rattle.line.specs.Codes.{replyLimit}
 use Rattle.session_state.specs.declared.Phase.{Phase}
 use Rattle.session_state.specs.declared.Phase.the-variants.{Detect, Command, Standby, Ended, Disabled}
 use Rattle.session_state.specs.declared.Standing.{Standing}
 use Rattle.session_state.specs.Phases.{isUnlocked}
 use Rattle.settings.specs.Answers.{numbered}
-use Rattle.settings.specs.Reader.{readOf}
 use Rattle.session.specs.declared.Session.{Session}
 use Rattle.session.specs.CallAnswers.{CallTold, Left}
-use Rattle.session.specs.Starting.{startOf}
+use Rattle.session.specs.Starting.{settingsRead, startOf}
 use Rattle.session.specs.Calling.{serveOf, callOf}
 use Rattle.session.proofs.CallLaws.{every-call, call-size-fits}
 use Rattle.session.proofs.RecordLaws.{record-by-clauses}
@@ -29,36 +28,36 @@ use Rattle.c_records.specs.OneNumber.{refusalUnit, burnUnit, oneNumber}
 use Rattle.c_records.specs.Stored.{Stored, stored, storedBy}
 use Rattle.c_records.specs.Records.{recordSize, lockCode, standingBytes, recordOf}
 use Rattle.c_records.specs.Boundary.{Called, storedAfter, calledFrom, calledAfter, callFromC}
-use Rattle.claims.specs.Held.{Held}
+use Rattle.claims.specs.Held.{HeldKept}
 use Rattle.claims.specs.TwoBoards.{Images, Running, started, AlikeBoards, Sending, called, next, replied, Flash, Alike, AlikeThroughout}
-use Rattle.claims.specs.TwoBoardsFromC.{RunningFromC, startedOn, startedFromC, Lent, calledFromC, repliedFromC, standsFromC, lockIn, AlikeFromC, AlikeCallsFromC, AlikeSessionsFromC}
-use Rattle.claims.proofs.Sessions.CallRules.{every-start, call-keeps-lengths, valid-is-served, valid-stays-valid, started-is-valid, started-session, started-has-window}
-use Rattle.claims.proofs.Sessions.RecordRule.{decode-after-encode, encoded-is-record}
+use Rattle.claims.specs.TwoBoardsFromC.{RunningFromC, startedOn, startedFromC, Lent, calledFromC, repliedFromC, standsFromC, lockIn, wrongIn, AlikeFromC, AlikeCallsFromC, AlikeSessionsFromC}
+use Rattle.claims.proofs.Sessions.CallRules.{every-start, call-keeps-lengths, valid-is-served, valid-stays-valid, started-is-valid, started-session, started-has-window, started-has-settings}
+use Rattle.claims.proofs.Sessions.RecordRule.{record-is, decode-after-encode, encoded-is-record}
 use Rattle.claims.proofs.Secrecy.LockedBoard.{HasRecord, HasWindow}
-use Rattle.claims.proofs.Settings.HeldSettings.{read-is-held}
+use Rattle.claims.proofs.Settings.HeldSettings.{taken-is-held}
 use Rattle.claims.proofs.Sessions.HeldSessions.{valid-is-held}
 use Rattle.claims.proofs.Secrecy.ToldApart.{two-boards-are-alike}
 
 -- ---- a board, as C has it
 
-abbrev pub fromC : Running → RunningFromC
-fromC board = record { area = recordOf (board .session); memory = board .memory }
+abbrev pub fromC : Part → Running → RunningFromC
+fromC part board = record { area = recordOf part (board .session); memory = board .memory }
 
 -- what a call leaves, as C has it
-abbrev pub leftFromC : Left → Called
-leftFromC left =
+abbrev pub leftFromC : Part → Left → Called
+leftFromC part left =
     record {
       answer = oneNumber 0 (left .answer .burn) (left .answer .size);
-      area = recordOf (left .session);
+      area = recordOf part (left .session);
       memory = left .memory;
       reply = left .area;
     }
 
 -- ---- what a record area and a number say
 
-pub stands-are : (session : Session) → standsFromC (recordOf session) ≡ standingBytes (session .standing) ++ bytesOf 4 (session .«main_size»)
-unfolding recordOf bytesOf
-stands-are session = refl
+pub stands-are : (part : Part) (session : Session) → standsFromC (recordOf part session) ≡ standingBytes (session .standing) ++ bytesOf 4 (session .«main_size»)
+unfolding bytesOf
+stands-are part session = ap standsFromC (record-is part session)
 
 pub locked-says-0 : (phase : Phase) → isUnlocked phase ≡ false → lockCode phase ≡ 0
 unfolding pick
@@ -69,9 +68,11 @@ locked-says-0 Standby h = refl
 locked-says-0 Ended h = refl
 locked-says-0 Disabled h = refl
 
-pub lock-is-0 : (session : Session) → isUnlocked (session .standing .phase) ≡ false → lockIn (recordOf session) ≡ 0
-unfolding recordOf
-lock-is-0 session shut = locked-says-0 (session .standing .phase) shut
+pub lock-is-0 : (part : Part) (session : Session) → isUnlocked (session .standing .phase) ≡ false → lockIn (recordOf part session) ≡ 0
+lock-is-0 part session shut = ap lockIn (record-is part session) ∙ locked-says-0 (session .standing .phase) shut
+
+pub wrong-is : (part : Part) (session : Session) → wrongIn (recordOf part session) ≡ session .standing .wrong
+wrong-is part session = ap wrongIn (record-is part session)
 
 -- the top byte of a call's number is 0, and its low half is the size
 number-says : (burn : Bool) (size : ℕ) → size ≤ 1729 → (oneNumber 0 burn size < refusalUnit) × (oneNumber 0 burn size % burnUnit ≡ size)
@@ -79,13 +80,13 @@ unfolding pick
 number-says true size h = (omega arith, omega arith)
 number-says false size h = (omega arith, omega arith)
 
-stands-alike : (one other : Session) → one .standing ≡ other .standing → one .«main_size» ≡ other .«main_size»
-    → standsFromC (recordOf one) ≡ standsFromC (recordOf other)
-stands-alike one other standing size =
-    stands-are one ∙ ap₂ (λ (stands : Standing) (main : ℕ). standingBytes stands ++ bytesOf 4 main) standing size ∙ sym (stands-are other)
+stands-alike : (part : Part) (one other : Session) → one .standing ≡ other .standing → one .«main_size» ≡ other .«main_size»
+    → standsFromC (recordOf part one) ≡ standsFromC (recordOf part other)
+stands-alike part one other standing size =
+    stands-are part one ∙ ap₂ (λ (stands : Standing) (main : ℕ). standingBytes stands ++ bytesOf 4 main) standing size ∙ sym (stands-are part other)
 
-pub replied-is : (left : Left) → left .answer .size ≤ 1729 → repliedFromC (leftFromC left) ≡ replied left
-replied-is left fits = ap (λ (size : ℕ). take size (left .area)) (number-says (left .answer .burn) (left .answer .size) fits .1)
+pub replied-is : (part : Part) (left : Left) → left .answer .size ≤ 1729 → repliedFromC (leftFromC part left) ≡ replied left
+replied-is part left fits = ap (λ (size : ℕ). take size (left .area)) (number-says (left .answer .burn) (left .answer .size) fits .1)
 
 -- ---- a board of a sound part, and a call of it
 
@@ -94,7 +95,7 @@ module _ (part : Part) (sound : Sound part) where
   pub record Fine (board : Running) : Type 0 where
     pub valid : HasRecord part board
     pub window : HasWindow part board
-    pub held : Held (board .session .settings)
+    pub held : HeldKept part (board .session .settings)
 
   module _ (board : Running) (fine : Fine board) (sending : Sending) (reply : List ℕ) where
     abbrev after : Left
@@ -103,10 +104,10 @@ module _ (part : Part) (sound : Sound part) where
     pub fine-then : Fine (next after)
     unfolding serveOf
     fine-then = record {
-      valid = valid-stays-valid part (board .session) (board .memory) (sending .wait) (sending .packet) reply sound (fine .valid);
+      valid = valid-stays-valid part (board .session) (board .memory) (sending .wait) (sending .packet) reply (fine .valid);
       window = call-keeps-lengths part (board .session) (board .memory) (sending .wait) (sending .packet) reply .window ∙ fine .window;
       held =
-          every-call part (board .session) (board .memory) (sending .wait) (sending .packet) reply (λ left. Held (left .session .settings))
+          every-call part (board .session) (board .memory) (sending .wait) (sending .packet) reply (λ left. HeldKept part (left .session .settings))
           (λ number. fine .held) (fine .held);
     }
 
@@ -118,15 +119,15 @@ module _ (part : Part) (sound : Sound part) where
           (valid-is-served part (board .session) (board .memory) (sending .wait) (sending .packet) reply (fine .valid) (fine .window) room)
 
       -- a call from C does what the call on the session does
-      pub call-from-C : calledFromC part (fromC board) sending reply ≡ leftFromC after
+      pub call-from-C : calledFromC part (fromC part board) sending reply ≡ leftFromC part after
       unfolding callFromC storedAfter
       call-from-C =
           let held = valid-is-held part sound (board .session) _ _ (fine .valid) (fine .held) in
           pick-false _ _ (le-ltb (length reply) replyLimit room)
           ∙ pick-false _ _ (ap not (eq-eqb _ _ (fine .window)))
-          ∙ pick-false _ _ (ap not (encoded-is-record (board .session) held))
-          ∙ ap (λ (session : Session). calledAfter (recordOf (board .session)) (callOf part session (board .memory) (sending .wait) (sending .packet) reply))
-          (decode-after-encode (board .session) held)
+          ∙ pick-false _ _ (ap not (encoded-is-record part (board .session) held))
+          ∙ ap (λ (session : Session). calledAfter part (recordOf part (board .session)) (callOf part session (board .memory) (sending .wait) (sending .packet) reply))
+          (decode-after-encode part (board .session) held)
           ∙ ap (λ (told : Stored). calledFrom told after) (pick-true _ _ (eq-eqb _ _ served))
 
   -- ---- one call
@@ -139,25 +140,24 @@ module _ (part : Part) (sound : Sound part) where
     -- what is alike by the sessions is alike by the areas
     alike-from-C : Alike part one other oneLeft otherLeft → Fine (next oneLeft) → Fine (next otherLeft)
         → oneLeft .answer .size ≤ 1729 → otherLeft .answer .size ≤ 1729
-        → AlikeFromC part one other (leftFromC oneLeft) (leftFromC otherLeft)
-    unfolding recordOf
+        → AlikeFromC part one other (leftFromC part oneLeft) (leftFromC part otherLeft)
     alike-from-C alike oneFine otherFine oneFits otherFits =
         let sizes = main-size-is one oneLeft oneFine (alike .oneFlash) ∙ size ∙ sym (main-size-is other otherLeft otherFine (alike .otherFlash)) in
         record {
           served = number-says (oneLeft .answer .burn) (oneLeft .answer .size) oneFits .0;
           answers = ap (λ (told : CallTold). oneNumber 0 (told .burn) (told .size)) (alike .answers);
-          replies = replied-is oneLeft oneFits ∙ alike .replies ∙ sym (replied-is otherLeft otherFits);
-          stands = stands-alike (oneLeft .session) (otherLeft .session) (alike .standing) sizes;
-          locked = lock-is-0 (oneLeft .session) (alike .locked);
-          oneFlash = alike .oneFlash;
-          otherFlash = alike .otherFlash;
+          replies = replied-is part oneLeft oneFits ∙ alike .replies ∙ sym (replied-is part otherLeft otherFits);
+          stands = stands-alike part (oneLeft .session) (otherLeft .session) (alike .standing) sizes;
+          locked = lock-is-0 part (oneLeft .session) (alike .locked);
+          oneFlash = subst (λ (wrong : ℕ). Flash part one wrong (oneLeft .memory)) (sym (wrong-is part (oneLeft .session))) (alike .oneFlash);
+          otherFlash = subst (λ (wrong : ℕ). Flash part other wrong (otherLeft .memory)) (sym (wrong-is part (otherLeft .session))) (alike .otherFlash);
         }
 
   -- ---- any list of calls
 
   module _ (one other : Images) (size : length (one .main) ≡ length (other .main)) where
     calls-alike : (sendings : List Sending) (oneNow otherNow : Running) → Fine oneNow → Fine otherNow
-        → AlikeThroughout part one other oneNow otherNow sendings → AlikeCallsFromC part one other (fromC oneNow) (fromC otherNow) sendings
+        → AlikeThroughout part one other oneNow otherNow sendings → AlikeCallsFromC part one other (fromC part oneNow) (fromC part otherNow) sendings
     calls-alike [] oneNow otherNow oneFine otherFine through = tt
     calls-alike (sending ∷ sendings) oneNow otherNow oneFine otherFine through = λ without.
         let here = through without in
@@ -176,30 +176,31 @@ module _ (part : Part) (sound : Sound part) where
 
   -- a start that answers 0 names no entry, and its settings were accepted
   start-accepts : (main settings window : List ℕ) → startOf part false main settings window .answer .number ≡ 0
-      → (startOf part false main settings window .answer ≡ numbered 0 0) × (readOf settings .number ≡ 0)
+      → (startOf part false main settings window .answer ≡ numbered 0 0) × (settingsRead settings .number ≡ 0)
   start-accepts main settings window =
-      every-start part false main settings window (λ told. (told .answer ≡ numbered 0 0) × (readOf settings .number ≡ 0)) (λ size lent read. (refl, read))
+      every-start part false main settings window (λ told. (told .answer ≡ numbered 0 0) × (settingsRead settings .number ≡ 0)) (λ size whole lent read. (refl, read))
 
-  module _ (images : Images) (area : List ℕ) (lent : Lent images area) (starts : startOf part false (images .main) (images .settings) (images .window) .answer .number ≡ 0) where
-    start-from-C : startedOn part images area ≡ stored 0 (recordOf (started part images .session))
+  module _ (images : Images) (area : List ℕ) (lent : Lent part images area) (starts : startOf part false (images .main) (images .settings) (images .window) .answer .number ≡ 0) where
+    start-from-C : startedOn part images area ≡ stored 0 (recordOf part (started part images .session))
     unfolding storedBy pick
     start-from-C =
-        rw (start-accepts (images .main) (images .settings) (images .window) starts .0, eq-eqb (length area) recordSize (lent .size))
+        rw (start-accepts (images .main) (images .settings) (images .window) starts .0, eq-eqb (length area) (recordSize part) (lent .size))
 
-    pub started-from-C : startedFromC part images area ≡ fromC (started part images)
+    pub started-from-C : startedFromC part images area ≡ fromC part (started part images)
     started-from-C = ap (λ (left : Stored). record { area = left .area; memory = images }) start-from-C
 
     started-is-fine : Fine (started part images)
     started-is-fine = record {
-      valid = started-is-valid part false (images .main) (images .settings) (images .window) sound starts;
+      valid = started-is-valid part false (images .main) (images .settings) (images .window) starts;
       window = started-has-window part false (images .main) (images .settings) (images .window) starts;
       held =
           rw (started-session part false (images .main) (images .settings) (images .window) starts)
-          (read-is-held (images .settings) (lent .bytes) (start-accepts (images .main) (images .settings) (images .window) starts .1) .settings);
+          (taken-is-held part (images .settings) (lent .bytes) (started-has-settings part false (images .main) (images .settings) (images .window) starts)
+          (start-accepts (images .main) (images .settings) (images .window) starts .1));
     }
 
   -- over any one session from C of two boards of one sound part, at every point of it
-  pub two-boards-are-alike-from-C : (one other : Images) (oneArea otherArea : List ℕ) → AlikeBoards part one other → Lent one oneArea → Lent other otherArea
+  pub two-boards-are-alike-from-C : (one other : Images) (oneArea otherArea : List ℕ) → AlikeBoards part one other → Lent part one oneArea → Lent part other otherArea
       → (sendings : List Sending) → AlikeSessionsFromC part one other oneArea otherArea sendings
   two-boards-are-alike-from-C one other oneArea otherArea alike oneLent otherLent sendings =
       let oneIs = start-from-C one oneArea oneLent (alike .oneStarts) in
@@ -209,7 +210,7 @@ module _ (part : Part) (sound : Sound part) where
         otherStarts = ap (λ (left : Stored). left .answer) otherIs;
         stands =
             rw (oneIs, otherIs, started-session part false (one .main) (one .settings) (one .window) (alike .oneStarts), started-session part false (other .main) (other .settings) (other .window) (alike .otherStarts))
-            (stands-alike _ _ refl (alike .size));
+            (stands-alike part _ _ refl (alike .size));
         calls =
             rw (started-from-C one oneArea oneLent (alike .oneStarts), started-from-C other otherArea otherLent (alike .otherStarts))
             (calls-alike one other (alike .size) sendings (started part one) (started part other)
@@ -218,6 +219,12 @@ module _ (part : Part) (sound : Sound part) where
       }
 
 -- two boards of the MSPM0
-pub mspm0-boards-are-alike-from-C : (one other : Images) (oneArea otherArea : List ℕ) → AlikeBoards mspm0 one other → Lent one oneArea → Lent other otherArea
+pub mspm0-boards-are-alike-from-C : (one other : Images) (oneArea otherArea : List ℕ) → AlikeBoards mspm0 one other → Lent mspm0 one oneArea → Lent mspm0 other otherArea
     → (sendings : List Sending) → AlikeSessionsFromC mspm0 one other oneArea otherArea sendings
 mspm0-boards-are-alike-from-C = two-boards-are-alike-from-C mspm0 mspm0-is-sound
+
+-- T-10: two boards of the AM13E230x
+pub am13e230x-boards-are-alike-from-C : (one other : Images) (oneArea otherArea : List ℕ) → AlikeBoards am13e230x one other
+    → Lent am13e230x one oneArea → Lent am13e230x other otherArea
+    → (sendings : List Sending) → AlikeSessionsFromC am13e230x one other oneArea otherArea sendings
+am13e230x-boards-are-alike-from-C = two-boards-are-alike-from-C am13e230x am13e230x-is-sound

@@ -21,17 +21,21 @@ use Rattle.settings.specs.Answers.{Numbered, numbered}
 use Rattle.settings.specs.Reader.{readOf}
 use Rattle.settings.specs.Moves.{moveOf}
 use Rattle.settings.specs.Fields.{zeroAt}
+use Rattle.settings_large.specs.Image.{largeSize}
+use Rattle.settings_large.specs.Reader as larger
 use Rattle.flash.specs.Memory.{Memory}
 use Rattle.c_records.specs.OneNumber.{refusalUnit, burnUnit, oneNumber, refusal, refusalOf}
 use Rattle.c_records.specs.Stored.{Stored, storedBy}
 use Rattle.c_records.specs.FieldsArea.{fieldsAreaSize, formAt, fieldsOf, isFormNumber, contentsRead}
 use Rattle.c_records.specs.SettingsFromC.{readFromC, writeFromC, movedFromC, toTwoFromC, toOneFromC}
+use Rattle.c_records.specs.LargeFromC.{largeAreaSize, largeFormAt, largeFieldsOf, largeContentsRead, readLargeFromC, writeLargeFromC}
 use Rattle.session.specs.CallAnswers.{Left}
 use Rattle.session.specs.Calling.{callOf}
 use Rattle.session.proofs.CallLaws.{refused-changes-nothing, call-size-fits}
 use Rattle.c_records.specs.Records.{recordSize, recordOf, sessionIn, isRecordArea}
 use Rattle.c_records.specs.Boundary.{startByFuse, startFromC, Called, called, storedAfter, calledFrom, calledAfter, callFromC}
 use Rattle.claims.proofs.Settings.MovesRule.{writer-keeps, refused-move-keeps}
+use Rattle.claims.proofs.Settings.Larger.LargeRule.{large-writer-keeps}
 use Rattle.claims.proofs.Sessions.NumberRule.{move-is-answered}
 
 -- the top byte of eight is not 0
@@ -52,11 +56,15 @@ storing-keeps told size bytes area =
 
 pub refused-start-keeps : (part : Part) (fuse : ℕ) (main settings window area : List ℕ) → Kept area (startFromC part fuse main settings window area)
 refused-start-keeps part fuse main settings window area =
-    storing-keeps (startByFuse part fuse main settings window .answer) recordSize (recordOf (startByFuse part fuse main settings window .session)) area
+    storing-keeps (startByFuse part fuse main settings window .answer) (recordSize part) (recordOf part (startByFuse part fuse main settings window .session)) area
 
 pub refused-read-keeps : (image area : List ℕ) → Kept area (readFromC image area)
 refused-read-keeps image area =
     storing-keeps (numbered (readOf image .number) (readOf image .entry)) fieldsAreaSize (fieldsOf (readOf image .contents)) area
+
+pub refused-large-read-keeps : (image area : List ℕ) → Kept area (readLargeFromC image area)
+refused-large-read-keeps image area =
+    storing-keeps (numbered (larger.readOf image .number) (larger.readOf image .entry)) largeAreaSize (largeFieldsOf (larger.readOf image .contents)) area
 
 -- ---- the settings writer and the moves
 
@@ -68,6 +76,15 @@ refused-write-keeps fields image =
     (λ n. by-pick (Kept image) (not (isFormNumber (numberAt formAt 2 fields))) _ _ (λ y h. refl)
     (λ n. by-pick (Kept image) (not (eqb (getD fields zeroAt 0) 0)) _ _ (λ y h. refl)
     (λ n h. writer-keeps (contentsRead fields) image (λ e. omega arith)))))
+
+pub refused-large-write-keeps : (fields image : List ℕ) → Kept image (writeLargeFromC fields image)
+unfolding writeLargeFromC pick
+refused-large-write-keeps fields image =
+    by-pick (Kept image) (not (eqb (length image) largeSize)) _ _ (λ y h. refl)
+    (λ n. by-pick (Kept image) (not (eqb (length fields) largeAreaSize)) _ _ (λ y h. refl)
+    (λ n. by-pick (Kept image) (not (eqb (numberAt largeFormAt 2 fields) 2)) _ _ (λ y h. refl)
+    (λ n. by-pick (Kept image) (not (eqb (getD fields zeroAt 0) 0)) _ _ (λ y h. refl)
+    (λ n h. large-writer-keeps (largeContentsRead fields) image (λ e. omega arith)))))
 
 moving-keeps : (from : Forms) (to : Form) (image : List ℕ) → Kept image (movedFromC (moveOf from to image))
 unfolding pick
@@ -97,7 +114,7 @@ module _ (part : Part) (area : List ℕ) (before : Memory) (wait : ℕ) (packet 
       (λ y. omega (arith, call-size-fits part (sessionIn area) before wait packet reply))
       (λ n. omega (arith, call-size-fits part (sessionIn area) before wait packet reply))
 
-  session-keeps : AllKept (calledAfter area left)
+  session-keeps : AllKept (calledAfter part area left)
   unfolding storedAfter
   session-keeps =
       by-pick (λ after. AllKept (calledFrom after left)) (eqb (left .answer .number) 0) _ _
@@ -110,4 +127,4 @@ module _ (part : Part) (area : List ℕ) (before : Memory) (wait : ℕ) (packet 
   refused-call-keeps-all =
       by-pick AllKept (ltb (length reply) replyLimit) _ _ (λ y h. refl)
       (λ n. by-pick AllKept (not (eqb (length (before .window)) (part .«window_size»))) _ _ (λ y h. refl)
-      (λ n. by-pick AllKept (not (isRecordArea area)) _ _ (λ y h. refl) (λ m. session-keeps)))
+      (λ n. by-pick AllKept (not (isRecordArea part area)) _ _ (λ y h. refl) (λ m. session-keeps)))

@@ -16,7 +16,7 @@ use Rattle.session.specs.Records.{isRecord}
 use Rattle.flash.proofs.RegionLaws.{main-size-is-small}
 use Rattle.session.proofs.RecordLaws.{record-by-clauses}
 use Rattle.c_records.specs.Records.{sleepOf}
-use Rattle.claims.specs.Held.{Held, HeldSession}
+use Rattle.claims.specs.Held.{HeldKept, HeldSession}
 
 sleep-held : (phase : Phase) → isValidPhase phase ≡ true → sleepOf phase < 256 ^ 4
 unfolding pick
@@ -27,7 +27,7 @@ sleep-held Standby h = omega arith
 sleep-held Ended h = omega arith
 sleep-held Disabled h = omega arith
 
-pub valid-is-held : (part : Part) → Sound part → (session : Session) (mainLent settingsLent : ℕ) → isRecord part session mainLent settingsLent ≡ true → Held (session .settings) → HeldSession session
+pub valid-is-held : (part : Part) → Sound part → (session : Session) (mainLent settingsLent : ℕ) → isRecord part session mainLent settingsLent ≡ true → HeldKept part (session .settings) → HeldSession part session
 valid-is-held part sound session mainLent settingsLent valid held =
     let clauses = record-by-clauses part session mainLent settingsLent valid in
     let stands = valid-by-parts (part .«last_rate») (session .standing) (clauses .standing) in

@@ -3,28 +3,33 @@
 -- `recordOf` is what `c_records` is proved to store, `sessionIn` and `isRecordArea` what it is proved to read.
 use mathlib.Core.Path.{_≡_, refl, sym, ap, _∙_}
 use mathlib.Core.Bool.{true, false}
-use mathlib.Core.List.{List}
-use Prim.Native.Nat.{ℕ, _+_, _-_, _<_}
+use mathlib.Core.List.{List, _++_}
+use mathlib.Core.Logic.{⊎-elim}
+use Prim.Native.Nat.{ℕ, _+_, _-_, _≤_, _<_}
 use native.Mathlib.Omega.{arith}
 use borrow.Author.Tests.{eq-eqb}
 use lib.Dec.{eqb}
-use lib.ListN.{length, getD, drop}
+use lib.ListN.{length, getD, take, drop}
 use lib.Seq.{take-all, getD-drop}
 use Rattle.octets.specs.Choice.{pick}
 use Rattle.octets.specs.Number.{bytesOf, numberAt}
 use Rattle.octets.proofs.Numbers.{number-of-bytes}
+use Rattle.parts.specs.declared.Part.{Part}
+use Rattle.parts.specs.Parts.{mspm0, am13e230x}
 use Rattle.session_state.specs.declared.Phase.{Phase}
 use Rattle.session_state.specs.declared.Phase.the-variants.{Detect, Command, Standby, Ended, Disabled}
-use Rattle.settings.specs.Layout.{form1, form2, lengthOf, offsetOf, sumOf, tableEnd}
-use Rattle.settings.specs.Bodies.{bodiesOf}
+use Rattle.settings.specs.Layout.{form1, form2, large, lengthOf, offsetOf, sumOf, tableEnd}
 use Rattle.settings.specs.Fields as fields
 use Rattle.settings.specs.Fields.{keptSize, zeroAt}
+use Rattle.settings.specs.Kept.{longSize, keptBodies}
 use Rattle.session.specs.declared.Session.{Session}
 use Rattle.c_records.specs.FieldsArea.{fieldsAreaSize, nameAt, formAt}
-use Rattle.c_records.specs.Records.{recordSize, fieldsAt, phaseCode, lockCode, sleepOf, recordOf, phaseIn, standingIn, sessionIn, phaseFits, isRecordArea}
+use Rattle.c_records.specs.Records.{recordSize, fieldsAt, phaseCode, lockCode, sleepOf, standingBytes, recordBytes, recordOf, phaseIn, standingIn, sessionIn, phaseFits, isRecordArea}
+use Rattle.c_records.specs.LargeFromC.{largeAreaSize, largeNameAt, largeFormAt}
+use Rattle.c_records.proofs.RecordLaws.{two-sizes, record-sizes}
 use Rattle.c_records.proofs.RecordAgain.{encode-after-decode}
 use Rattle.claims.specs.Held.{HeldSession}
-use Rattle.claims.proofs.Settings.FieldsRule.{read-after-made, fields-size, made-unused}
+use Rattle.claims.proofs.Settings.KeptRule.{fieldsIn, kept-back, kept-unused, kept-size}
 
 -- ---- a session as bytes
 
@@ -46,52 +51,78 @@ coded-phase-fits Standby = refl
 coded-phase-fits Ended = refl
 coded-phase-fits Disabled = refl
 
-module _ (session : Session) (held : HeldSession session) where
-  sleep-back : numberAt 4 4 (recordOf session) ≡ sleepOf (session .standing .phase)
-  unfolding recordOf bytesOf
+-- ---- a record, by its pieces
+
+module _ (board : Part) (session : Session) where
+  abbrev made : List ℕ
+  made = standingBytes (session .standing) ++ (bytesOf 4 (session .«main_size») ++ fieldsIn board (session .settings))
+
+  pub record-is : recordOf board session ≡ made
+  unfolding recordBytes bytesOf
+  record-is =
+      ⊎-elim
+      (λ e. ap (λ (n : ℕ). take n (recordBytes session)) e
+      ∙ sym (ap (λ (n : ℕ). standingBytes (session .standing) ++ (bytesOf 4 (session .«main_size») ++ take (n - 20) (keptBodies (session .settings)))) e))
+      (λ e. ap (λ (n : ℕ). take n (recordBytes session)) e
+      ∙ sym (ap (λ (n : ℕ). standingBytes (session .standing) ++ (bytesOf 4 (session .«main_size») ++ take (n - 20) (keptBodies (session .settings)))) e))
+      (two-sizes board)
+
+module _ (board : Part) (session : Session) (held : HeldSession board session) where
+  sleep-back : numberAt 4 4 (made board session) ≡ sleepOf (session .standing .phase)
+  unfolding bytesOf
   sleep-back = number-of-bytes 4 (sleepOf (session .standing .phase)) (held .sleep)
 
-  idle-back : numberAt 8 4 (recordOf session) ≡ session .standing .idle
-  unfolding recordOf bytesOf
+  idle-back : numberAt 8 4 (made board session) ≡ session .standing .idle
+  unfolding bytesOf
   idle-back = number-of-bytes 4 (session .standing .idle) (held .idle)
 
-  tries-back : numberAt 12 4 (recordOf session) ≡ session .standing .tries
-  unfolding recordOf bytesOf
+  tries-back : numberAt 12 4 (made board session) ≡ session .standing .tries
+  unfolding bytesOf
   tries-back = number-of-bytes 4 (session .standing .tries) (held .tries)
 
-  main-back : numberAt 16 4 (recordOf session) ≡ session .«main_size»
-  unfolding recordOf bytesOf
+  main-back : numberAt 16 4 (made board session) ≡ session .«main_size»
+  unfolding bytesOf
   main-back = number-of-bytes 4 (session .«main_size») (held .main)
 
-  fields-there : drop 20 (recordOf session) ≡ bodiesOf (session .settings)
-  unfolding recordOf bytesOf
+  fields-there : drop 20 (made board session) ≡ fieldsIn board (session .settings)
+  unfolding bytesOf
   fields-there = refl
 
-  standing-back : standingIn (recordOf session) ≡ session .standing
-  unfolding standingIn recordOf
+  standing-back : standingIn (made board session) ≡ session .standing
+  unfolding standingIn
   standing-back = rw (sleep-back, idle-back, tries-back, phase-back (session .standing .phase))
 
-  pub decode-after-encode : sessionIn (recordOf session) ≡ session
+  few : length (fieldsIn board (session .settings)) ≤ 98
+  few = omega (arith, kept-size board (session .settings) (held .settings), record-sizes board .1)
+
+  made-back : sessionIn (made board session) ≡ session
   unfolding sessionIn
-  decode-after-encode =
-      rw (standing-back, main-back, fields-there, take-all 74 (bodiesOf (session .settings)) (omega (arith, fields-size (session .settings) (held .settings))), read-after-made (session .settings) (held .settings))
+  made-back =
+      rw (standing-back, main-back, fields-there, take-all 98 (fieldsIn board (session .settings)) few, kept-back board (session .settings) (held .settings))
 
-  record-size : length (recordOf session) ≡ 94
-  unfolding recordOf bytesOf
-  record-size = omega (arith, fields-size (session .settings) (held .settings))
+  pub decode-after-encode : sessionIn (recordOf board session) ≡ session
+  decode-after-encode = ap sessionIn (record-is board session) ∙ made-back
 
-  unused-there : getD (recordOf session) 73 0 ≡ 0
-  unused-there = sym (getD-drop 20 (recordOf session) 53 0) ∙ ap (λ (l : List ℕ). getD l 53 0) fields-there ∙ made-unused (session .settings) (held .settings)
+  record-size : length (made board session) ≡ recordSize board
+  unfolding bytesOf
+  record-size = omega (arith, kept-size board (session .settings) (held .settings), record-sizes board .0)
 
-  pub encoded-is-record : isRecordArea (recordOf session) ≡ true
-  unfolding isRecordArea recordOf pick
-  encoded-is-record = rw (eq-eqb _ _ record-size, sleep-back, coded-phase-fits (session .standing .phase), unused-there)
+  unused-there : getD (made board session) 73 0 ≡ 0
+  unused-there =
+      sym (getD-drop 20 (made board session) 53 0) ∙ ap (λ (l : List ℕ). getD l 53 0) fields-there ∙ kept-unused board (session .settings) (held .settings)
+
+  made-is-record : isRecordArea board (made board session) ≡ true
+  unfolding isRecordArea pick
+  made-is-record = rw (eq-eqb _ _ record-size, sleep-back, coded-phase-fits (session .standing .phase), unused-there)
+
+  pub encoded-is-record : isRecordArea board (recordOf board session) ≡ true
+  encoded-is-record = ap (isRecordArea board) (record-is board session) ∙ made-is-record
 
 -- for a session there is one area only
-pub one-area : (one other : List ℕ) → ((k : ℕ) → getD one k 0 < 256) → ((k : ℕ) → getD other k 0 < 256) → isRecordArea one ≡ true → isRecordArea other ≡ true
-    → sessionIn one ≡ sessionIn other → one ≡ other
-one-area one other each each₂ known known₂ e =
-    sym (encode-after-decode one each known) ∙ ap recordOf e ∙ encode-after-decode other each₂ known₂
+pub one-area : (board : Part) (one other : List ℕ) → ((k : ℕ) → getD one k 0 < 256) → ((k : ℕ) → getD other k 0 < 256)
+    → isRecordArea board one ≡ true → isRecordArea board other ≡ true → sessionIn one ≡ sessionIn other → one ≡ other
+one-area board one other each each₂ known known₂ e =
+    sym (encode-after-decode board one each known) ∙ ap (recordOf board) e ∙ encode-after-decode board other each₂ known₂
 
 -- ---- the numbers of the record's layout, from those of the image's
 
@@ -105,9 +136,13 @@ pub zero-ends-body-3 : zeroAt + 1 ≡ offsetOf form1 3 - tableEnd form1 + length
 unfolding offsetOf sumOf
 zero-ends-body-3 = refl
 
-pub record-ends-with-fields : recordSize ≡ fieldsAt + keptSize
-record-ends-with-fields = refl
+pub record-ends-with-fields : (recordSize mspm0 ≡ fieldsAt + keptSize) × (recordSize am13e230x ≡ fieldsAt + longSize)
+unfolding recordSize pick
+record-ends-with-fields = (refl, refl)
 
 -- the fields of an image are those of a record, then the name and the form's number
 pub fields-go-on : (nameAt ≡ keptSize) × (formAt ≡ nameAt + lengthOf form2 7) × (fieldsAreaSize ≡ formAt + 2)
 fields-go-on = (refl, refl, refl)
+
+pub large-fields-go-on : (largeNameAt ≡ longSize) × (largeFormAt ≡ largeNameAt + lengthOf large 7) × (largeAreaSize ≡ largeFormAt + 2)
+large-fields-go-on = (refl, refl, refl)

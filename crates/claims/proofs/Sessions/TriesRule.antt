@@ -10,7 +10,6 @@ use Rattle.octets.specs.Choice.{pick}
 use Rattle.octets.specs.Alike.{areSame}
 use Rattle.octets.proofs.Searching.{pick-true, pick-false, by-pick}
 use Rattle.parts.specs.declared.Part.{Part}
-use Rattle.parts.specs.Parts.{Sound}
 use Rattle.line.specs.Codes.{replyLimit}
 use Rattle.line.specs.Packet.{passwordIn}
 use Rattle.session_state.specs.Phases.{mostTries}
@@ -74,10 +73,10 @@ module _ (part : Part) where
       total-stops most = wrong-is-served ∙ no-more (session .standing .tries) (omega arith) ∙ most
 
     -- a valid record is never one that 10 refuses for its total
-    pub total-goes-with-count : Sound part → isValidRecord
+    pub total-goes-with-count : isValidRecord
         → (after .session .standing .wrong ≤ after .session .standing .tries) × (after .session .standing .tries ≤ mostTries)
-    total-goes-with-count sound valid =
-        let left = valid-stays-valid part session before wait packet area sound valid in
+    total-goes-with-count valid =
+        let left = valid-stays-valid part session before wait packet area valid in
         let parts = valid-by-parts (part .«last_rate») _ (record-by-clauses part _ _ _ left .standing) in
         (parts .tries, parts .most)
 

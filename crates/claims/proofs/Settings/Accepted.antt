@@ -1,34 +1,30 @@
 -- What the reader's tests say of an accepted image: its parts are those that the writer would put there.
-use mathlib.Core.Path.{_≡_, refl, sym}
-use mathlib.Core.Bool.{true, false, true≢false}
+use mathlib.Core.Path.{_≡_, refl, sym, ap, _∙_}
+use mathlib.Core.Bool.{true}
 use mathlib.Core.List.{List, _++_}
-use Prim.Native.Nat.{ℕ, zero, suc, _+_, _-_, _*_, _/_, _%_, _≤_, _<_}
+use Prim.Native.Nat.{ℕ, _+_, _-_, _<_}
 use native.Mathlib.Omega.{arith}
 use borrow.Author.Tests.{eqb-true, not-false}
-use lib.Dec.{eqb}
 use lib.ListN.{length, getD, take}
 use lib.Seq.{take-all}
 use Rattle.octets.specs.Number.{part, numberAt}
 use Rattle.octets.specs.Alike.{allAre}
 use Rattle.octets.proofs.Parts.{length-part, parts-join}
-use Rattle.octets.proofs.Searching.{pick-both, none-passes}
 use Rattle.octets.proofs.AlikeLaws.{all-are-replicate, replicate-all-are}
 use Rattle.checksum.specs.Checksum.{checksumOf}
 use Rattle.settings.specs.declared.Form.{Form}
 use Rattle.settings.specs.declared.Form.the-variants.{One, Two}
-use Rattle.settings.specs.Layout.{layoutOf, countOf, offsetOf, sumOf, tableOf, placeOf, pairsOf}
+use Rattle.settings.specs.Layout.{layoutOf, offsetOf, sumOf, tableOf, pairsOf}
 use Rattle.settings.specs.Table.{bodiesAt, table-ends, fillerAt, bodies-end}
-use Rattle.settings.specs.Entries.{fieldDiffers, entryDiffers, differingEntry}
 use Rattle.settings.specs.Values.{noName}
 use Rattle.settings.specs.Bodies.{nameBody, nameIn, contentsIn}
 use Rattle.settings.specs.Image.{fillerOf, frontOf, imageOf}
 use Rattle.settings.specs.Reader.{checksumDiffers, isForm, fillerDiffers}
 use Rattle.settings.specs.Writer.{nameFits}
-use Rattle.settings.proofs.TableLaws.{length-table}
 use Rattle.settings.proofs.BodyLaws.{bodies-begin}
 use Rattle.settings.proofs.WriterLaws.{filler-there}
 use Rattle.settings.proofs.AgainLaws.{number-again, bodies-made-again}
-use Rattle.claims.proofs.Settings.Pairs.{pairs-read}
+use Rattle.claims.proofs.Settings.Tables.TableRule.{table-was-put}
 use Rattle.settings.proofs.PassingLaws.{Passed}
 
 -- ---- form by form
@@ -53,31 +49,11 @@ module _ (image : List ℕ) where
   read-name-fits Two = refl
 
 module _ (form : Form) (image : List ℕ) (passed : Passed form image) (each : (k : ℕ) → getD image k 0 < 256) where
-  abbrev table : List ℕ
-  table = tableOf (layoutOf form)
-
-  form-and-count : (eqb (numberAt 0 2 image) (layoutOf form .form) ≡ true) × (eqb (numberAt 2 2 image) (countOf (layoutOf form)) ≡ true)
+  table-there : pairsOf (tableOf (layoutOf form)) ≡ part 0 (bodiesAt form) image
   unfolding isForm
-  form-and-count = pick-both _ _ (passed .known)
-
-  field-same : (n f : ℕ) → 1 ≤ n → n < 1 + countOf (layoutOf form) → f < 4 → numberAt (2 * placeOf n f) 2 image ≡ getD table (placeOf n f) 0
-  unfolding differingEntry entryDiffers fieldDiffers
-  field-same n f l u h =
-      eqb-true _ _ (not-false _ (none-passes (λ k. true) false (fieldDiffers (layoutOf form) image n) 0 4 (λ k b e. true≢false e)
-      (none-passes (λ k. k) 0 (entryDiffers (layoutOf form) image) 1 (countOf (layoutOf form)) (λ k b e. omega arith) (passed .entries) n l u) f (omega arith) (omega arith)))
-
-  table-same : (i : ℕ) → i < length table → numberAt (2 * i) 2 image ≡ getD table i 0
-  unfolding tableOf
-  table-same zero h = eqb-true _ _ (form-and-count .0)
-  table-same (suc zero) h = eqb-true _ _ (form-and-count .1)
-  table-same (suc (suc i)) h =
-      let e : placeOf (1 + i / 4) (i % 4) ≡ suc (suc i) = omega arith in
-      rw e at (field-same (1 + i / 4) (i % 4) (omega arith) (omega (arith, length-table (layoutOf form))) (omega arith))
-
-  table-there : pairsOf table ≡ part 0 (bodiesAt form) image
   table-there =
-      let n : 2 * length table ≡ bodiesAt form = omega (arith, length-table (layoutOf form), table-ends form) in
-      sym (rw n at (pairs-read table image (omega (arith, n, bodies-begin form, passed .size)) each table-same))
+      table-was-put (layoutOf form) image each (passed .known) (passed .entries) (omega (arith, table-ends form, bodies-begin form, passed .size))
+      ∙ ap (λ (end : ℕ). part 0 end image) (table-ends form)
 
   filler-is-there : fillerOf form ≡ part (fillerAt form) (1020 - fillerAt form) image
   unfolding fillerDiffers

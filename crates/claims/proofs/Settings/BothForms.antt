@@ -11,14 +11,14 @@ use Rattle.settings.specs.declared.Settings.{Settings}
 use Rattle.settings.specs.declared.Contents.{Contents}
 use Rattle.settings.specs.declared.Form.the-variants.{One, Two}
 use Rattle.settings.specs.Values.{isAllowed, noName}
-use Rattle.settings.specs.Layout.{imageSize}
+use Rattle.parts.specs.Parts.{mspm0}
 use Rattle.settings.specs.Bodies.{contentsOf}
 use Rattle.settings.specs.Image.{imageOf}
 use Rattle.settings.specs.Answers.{SettingsTold, settingsOnly}
-use Rattle.settings.specs.Reader.{readOf}
+use Rattle.claims.proofs.Sessions.CallRules.{small-is-taken}
 use Rattle.settings.specs.Writer.{nameFits}
 use Rattle.flash.specs.Regions.{isMainSize}
-use Rattle.session.specs.Starting.{startRefused, startRead, startOf}
+use Rattle.session.specs.Starting.{startRefused, startRead, settingsRead, startOf}
 use Rattle.claims.specs.Held.{Bytes, Held, HeldContents}
 use Rattle.claims.proofs.Settings.Written.{image-passes}
 use Rattle.claims.proofs.Settings.SettingsRule.{image-reads, blank-contents-held, no-name-fits}
@@ -37,10 +37,12 @@ module _ (settings : Settings) (name : List ℕ) (held : Held settings) (text : 
   named-held = record { settings = held; name = text }
 
   -- what a session takes of both images, and their sizes
-  both-are-taken : settingsOnly (readOf (imageOf unnamed)) ≡ settingsOnly (readOf (imageOf named))
+  both-are-taken : settingsRead (imageOf unnamed) ≡ settingsRead (imageOf named)
   unfolding nameFits
   both-are-taken =
-      ap settingsOnly (image-reads unnamed unnamed-held allowed no-name-fits) ∙ sym (ap settingsOnly (image-reads named named-held allowed refl))
+      small-is-taken mspm0 (imageOf unnamed) (image-passes unnamed unnamed-held allowed no-name-fits .size)
+      ∙ ap settingsOnly (image-reads unnamed unnamed-held allowed no-name-fits) ∙ sym (ap settingsOnly (image-reads named named-held allowed refl))
+      ∙ sym (small-is-taken mspm0 (imageOf named) (image-passes named named-held allowed refl .size))
 
   both-have-size : length (imageOf unnamed) ≡ length (imageOf named)
   unfolding nameFits
@@ -53,6 +55,6 @@ module _ (settings : Settings) (name : List ℕ) (held : Held settings) (text : 
       ap₂ (λ (size : ℕ) (told : SettingsTold).
       pick fuse (startRefused 1 0)
       (pick (not (isMainSize part (length main))) (startRefused 2 0)
-      (pick (not (eqb size imageSize)) (startRefused 3 0)
+      (pick (not (eqb size (part .«settings_size»))) (startRefused 3 0)
       (pick (not (eqb (length window) (part .«window_size»))) (startRefused 11 0)
       (startRead (length main) told))))) both-have-size both-are-taken

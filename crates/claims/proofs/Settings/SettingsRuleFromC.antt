@@ -74,14 +74,14 @@ fields-taken fields image =
     Promised : Stored → Type 0
     Promised left = left .answer ≡ 0 → Taken fields (left .area)
 
--- the reader has stored the fields of what it read
-fields-stored : (told : Numbered) (bytes area : List ℕ) → storedBy told fieldsAreaSize bytes area .answer ≡ 0
-    → (told .number ≡ 0) × (storedBy told fieldsAreaSize bytes area .area ≡ bytes)
+-- the reader has stored the fields of what it read, in an area of their size
+pub fields-stored : (told : Numbered) (size : ℕ) (bytes area : List ℕ) → storedBy told size bytes area .answer ≡ 0
+    → (told .number ≡ 0) × (storedBy told size bytes area .area ≡ bytes)
 unfolding storedBy pick
-fields-stored told bytes area =
+fields-stored told size bytes area =
     by-pick Promised (not (eqb (refusalOf told) 0)) _ _
     (λ y e. absurd (eqb-false _ _ (not-true _ y) e))
-    (λ n. by-pick Promised (not (eqb (length area) fieldsAreaSize)) _ _ (λ y e. absurd (omega arith))
+    (λ n. by-pick Promised (not (eqb (length area) size)) _ _ (λ y e. absurd (omega arith))
     (λ m e. let none : refusalOf told ≡ 0 = eqb-true _ _ (not-false _ n) in (omega arith, refl)))
   where
     Promised : Stored → Type 0
@@ -89,11 +89,10 @@ fields-stored told bytes area =
 
 -- ---- read after write
 
--- contents that are accepted are stored as their fields, in any area of the size
-accepted-stored : (contents : Contents) (area : List ℕ) → length area ≡ fieldsAreaSize
-    → storedBy (numbered 0 0) fieldsAreaSize (fieldsOf contents) area ≡ stored 0 (fieldsOf contents)
+-- of contents that are accepted the bytes are stored, in any area of their size
+pub bytes-stored : (size : ℕ) (bytes area : List ℕ) → length area ≡ size → storedBy (numbered 0 0) size bytes area ≡ stored 0 bytes
 unfolding storedBy pick
-accepted-stored contents area size = rw (eq-eqb (length area) fieldsAreaSize size)
+bytes-stored size bytes area there = rw (eq-eqb (length area) size there)
 
 -- where the writer answers 0, the reader answers 0 for the image that it left, and stores the same fields
 pub read-after-write-from-C : (fields image area : List ℕ) → ((k : ℕ) → getD fields k 0 < 256) → writeFromC fields image .answer ≡ 0
@@ -104,7 +103,7 @@ read-after-write-from-C fields image area each e size =
     ap (λ (written : List ℕ). readFromC written area) (taken .wrote .image)
     ∙ ap (λ (told : ReadTold). storedBy (numbered (told .number) (told .entry)) fieldsAreaSize (fieldsOf (told .contents)) area)
     (image-reads contents (area-held fields (taken .size) each) (taken .wrote .allowed) (taken .wrote .fits))
-    ∙ accepted-stored contents area size
+    ∙ bytes-stored fieldsAreaSize (fieldsOf contents) area size
     ∙ ap (stored 0) (made-after-contents fields (taken .size) each (taken .names) (taken .zero))
 
 -- ---- write after read
@@ -128,7 +127,7 @@ pub write-after-read-from-C : (image fields area : List ℕ) → ((k : ℕ) → 
 unfolding pick
 write-after-read-from-C image fields area each e written size =
     let read = readOf image in
-    let kept = fields-stored (numbered (read .number) (read .entry)) (fieldsOf (read .contents)) fields e in
+    let kept = fields-stored (numbered (read .number) (read .entry)) fieldsAreaSize (fieldsOf (read .contents)) fields e in
     ap (λ (fields : List ℕ). writeFromC fields area) (kept .1)
     ∙ written-from-C (read .contents) area (read-is-held image each (kept .0)) size
     ∙ ap writtenFromC (write-after-read image each area size (kept .0) written)

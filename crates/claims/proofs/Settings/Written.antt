@@ -1,21 +1,20 @@
 -- What stands where in a written image: it passes the reader's tests, and says what was written.
 use mathlib.Core.Path.{_≡_, refl, sym, ap, ap₂, _∙_}
 use mathlib.Core.Bool.{true, false}
-use mathlib.Core.List.{List, [], _∷_, _++_, append-assoc}
-use Prim.Native.Nat.{ℕ, _+_, _-_, _*_, _≤_, _<_}
+use mathlib.Core.List.{List, [], _∷_, _++_, append-assoc, append-nil}
+use Prim.Native.Nat.{ℕ, _+_, _-_, _≤_, _<_}
 use native.Mathlib.Omega.{arith}
 use borrow.Author.Tests.{eq-eqb, leb-true}
-use lib.Dec.{ltb, leb, ltb→lt}
+use lib.Dec.{leb}
 use lib.ListN.{length, getD, take, drop, replicate, length-append, length-replicate}
-use lib.Seq.{take-at, drop-at, take-all}
+use lib.Seq.{take-at, drop-at}
 use Rattle.octets.specs.Choice.{pick}
 use Rattle.octets.specs.Number.{numberOf, bytesOf, part, numberAt}
 use Rattle.octets.specs.Alike.{allAre}
 use Rattle.octets.proofs.Numbers.{length-bytesOf, number-of-bytes, each-bytesOf}
 use Rattle.octets.proofs.Parts.{part-there, from-next, each-none, each-cons, each-append, each-replicate}
-use Rattle.octets.proofs.Searching.{pick-both, none-found}
+use Rattle.octets.proofs.Searching.{pick-both}
 use Rattle.octets.proofs.AlikeLaws.{all-are-replicate, replicate-all-are}
-use Rattle.octets.proofs.Table.{test-at}
 use Rattle.checksum.specs.Checksum.{checksumOf}
 use Rattle.checksum.proofs.Laws.{checksum-of-fits}
 use Rattle.settings.specs.declared.Shown.{Shown}
@@ -23,10 +22,10 @@ use Rattle.settings.specs.declared.Settings.{Settings}
 use Rattle.settings.specs.declared.Form.{Form}
 use Rattle.settings.specs.declared.Form.the-variants.{One, Two}
 use Rattle.settings.specs.declared.Contents.{Contents}
-use Rattle.settings.specs.Layout.{layoutOf, countOf, bodiesEnd, offsetOf, sumOf, tableOf, placeOf, pairsOf}
-use Rattle.settings.specs.Table.{printedTable, layout-gives-table, bodiesAt, table-ends, fillerAt, bodies-end}
-use Rattle.settings.specs.Entries.{fieldDiffers, entryDiffers, differingEntry}
-use Rattle.settings.specs.Bodies.{valuesOf, numbersOf, bodiesOf, nameBody, allBodiesOf, shownIn, settingsIn, nameIn, contentsOf, contentsIn}
+use Rattle.settings.specs.Layout.{layoutOf, bodiesEnd, offsetOf, sumOf, tableOf, pairsOf}
+use Rattle.settings.specs.Table.{bodiesAt, table-ends, fillerAt, bodies-end}
+use Rattle.settings.specs.Entries.{differingEntry}
+use Rattle.settings.specs.Bodies.{valuesOf, numbersOf, bodiesWith, bodiesOf, nameBody, allBodiesOf, shownIn, settingsIn, nameIn, contentsOf, contentsIn}
 use Rattle.settings.specs.Values.{isAllowed, noName}
 use Rattle.settings.specs.Image.{fillerOf, frontOf, imageOf}
 use Rattle.settings.specs.Reader.{checksumDiffers, isForm, fillerDiffers, valueNotAllowed}
@@ -35,7 +34,8 @@ use Rattle.settings.proofs.TableLaws.{length-table, length-pairs}
 use Rattle.settings.proofs.BodyLaws.{fields-there, zero-there}
 use Rattle.settings.proofs.WriterLaws.{length-front}
 use Rattle.claims.specs.Held.{HeldContents}
-use Rattle.claims.proofs.Settings.Pairs.{pairs-at, each-pairs}
+use Rattle.claims.proofs.Settings.Tables.Pairs.{each-pairs}
+use Rattle.claims.proofs.Settings.Tables.TableRule.{form-fits, first-byte, form-and-count-there, no-entry-differs}
 use Rattle.claims.proofs.Settings.FieldsRule.{fields-size, read-after-made, made-unused}
 use Rattle.settings.proofs.PassingLaws.{Passed}
 
@@ -47,18 +47,41 @@ allowed-values shown h =
     let rest = pick-both (leb (shown .alert) 2) (leb (shown .«settings_protected») 1) (mode .1) in
     (leb-true (shown .«reset_mode») 2 (mode .0), leb-true (shown .alert) 2 (rest .0), leb-true (shown .«settings_protected») 1 (rest .1))
 
+-- the six bodies of allowed values are made of bytes
+module _ (shown : Shown) (allowed : isAllowed shown ≡ true) where
+  values-each : (k : ℕ) → getD (valuesOf shown) k 0 < 256
+  values-each =
+      let v = allowed-values shown allowed in
+      each-cons (shown .«reset_mode») (shown .alert ∷ (bytesOf 2 (shown .readout) ++ (shown .«settings_protected» ∷ 0 ∷ []))) (omega arith)
+      (each-cons (shown .alert) (bytesOf 2 (shown .readout) ++ (shown .«settings_protected» ∷ 0 ∷ [])) (omega arith)
+      (each-append (bytesOf 2 (shown .readout)) (shown .«settings_protected» ∷ 0 ∷ []) (each-bytesOf 2 (shown .readout))
+      (each-cons (shown .«settings_protected») (0 ∷ []) (omega arith) (each-cons 0 [] (omega arith) each-none))))
+
+  numbers-each : (k : ℕ) → getD (numbersOf shown) k 0 < 256
+  numbers-each =
+      each-append (bytesOf 4 (shown .«bcr_id»)) (bytesOf 4 (shown .«bsl_id») ++ bytesOf 4 (shown .«version_pointer»)) (each-bytesOf 4 (shown .«bcr_id»))
+      (each-append (bytesOf 4 (shown .«bsl_id»)) (bytesOf 4 (shown .«version_pointer»)) (each-bytesOf 4 (shown .«bsl_id»)) (each-bytesOf 4 (shown .«version_pointer»)))
+
+  pub bodies-each : (password reset protection : List ℕ) → ((k : ℕ) → getD password k 0 < 256) → ((k : ℕ) → getD reset k 0 < 256)
+      → ((k : ℕ) → getD protection k 0 < 256) → (k : ℕ) → getD (bodiesWith password reset shown protection) k 0 < 256
+  bodies-each password reset protection p r q =
+      each-append password (reset ++ (valuesOf shown ++ (numbersOf shown ++ protection))) p
+      (each-append reset (valuesOf shown ++ (numbersOf shown ++ protection)) r
+      (each-append (valuesOf shown) (numbersOf shown ++ protection) values-each (each-append (numbersOf shown) protection numbers-each q)))
+
+-- bytes that are followed by their checksum, and whatever comes after it
+pub checksum-there : (image front after : List ℕ) → image ≡ front ++ (bytesOf 4 (checksumOf front) ++ after) → length front ≡ 1020
+    → ((k : ℕ) → getD front k 0 < 256) → checksumDiffers image ≡ false
+unfolding checksumDiffers
+checksum-there image front after is size each =
+    let sum : List ℕ = bytesOf 4 (checksumOf front) in
+    let from : drop 1020 image ≡ sum ++ after = ap (drop 1020) is ∙ drop-at front (sum ++ after) 1020 size in
+    let there : numberAt 1020 4 image ≡ checksumOf front =
+    ap numberOf (part-there image 1020 4 sum after from (length-bytesOf 4 (checksumOf front))) ∙ number-of-bytes 4 (checksumOf front) (checksum-of-fits front each) in
+    let taken : take 1020 image ≡ front = ap (take 1020) is ∙ take-at front (sum ++ after) 1020 size in
+    rw (there, taken, eq-eqb (checksumOf front) (checksumOf front) refl)
+
 -- ---- form by form
-
--- each number of a table fits two bytes: one test over the table
-printed-fits : (form : Form) (i : ℕ) → i < length (printedTable form) → getD (printedTable form) i 0 < 65536
-printed-fits One i h = ltb→lt (getD (printedTable One) i 0) 65536 (test-at (λ k n. ltb n 65536) 0 (printedTable One) tt i h)
-printed-fits Two i h = ltb→lt (getD (printedTable Two) i 0) 65536 (test-at (λ k n. ltb n 65536) 0 (printedTable Two) tt i h)
-
--- no table begins with 0xFF
-first-byte : (form : Form) (rest : List ℕ) → allAre 0xFF (pairsOf (tableOf (layoutOf form)) ++ rest) ≡ false
-unfolding pairsOf tableOf bytesOf allAre pick
-first-byte One rest = refl
-first-byte Two rest = refl
 
 module _ (name image after : List ℕ) where
   -- what follows the six bodies: the name that the form has, and then the filler
@@ -119,28 +142,13 @@ module _ (c : Contents) (held : HeldContents c) (allowed : isAllowed (c .setting
   unfolding image imageOf front sum table
   in-parts = simp append-assoc
 
-  table-there : (i : ℕ) → i < 2 + 4 * countOf (layoutOf form) → numberAt (2 * i) 2 image ≡ getD (tableOf (layoutOf form)) i 0
-  unfolding table
-  table-there i h =
-      ap (λ (l : List ℕ). numberAt (2 * i) 2 l) in-parts
-      ∙ pairs-at (tableOf (layoutOf form)) (bodiesOf s ++ (nameBody form (c .name) ++ (fillerOf form ++ sum))) (rw (layout-gives-table form) (printed-fits form)) i (omega (arith, length-table (layoutOf form)))
-
   form-there : isForm form image ≡ true
-  unfolding isForm tableOf pick
-  form-there =
-      rw (
-        table-there 0 (omega arith),
-        table-there 1 (omega arith),
-        eq-eqb (layoutOf form .form) (layoutOf form .form) refl,
-        eq-eqb (countOf (layoutOf form)) (countOf (layoutOf form)) refl,
-      )
+  unfolding isForm table
+  form-there = form-and-count-there (layoutOf form) (form-fits form) image (bodiesOf s ++ (nameBody form (c .name) ++ (fillerOf form ++ sum))) in-parts
 
-  no-entry-differs : differingEntry (layoutOf form) image ≡ 0
-  unfolding differingEntry entryDiffers fieldDiffers
-  no-entry-differs =
-      none-found (λ n. n) 0 (entryDiffers (layoutOf form) image) 1 (countOf (layoutOf form)) (λ n l u.
-      none-found (λ n. true) false (fieldDiffers (layoutOf form) image n) 0 4 (λ f k v.
-      rw (table-there (placeOf n f) (omega arith), eq-eqb (getD (tableOf (layoutOf form)) (placeOf n f) 0) (getD (tableOf (layoutOf form)) (placeOf n f) 0) refl)))
+  entries-there : differingEntry (layoutOf form) image ≡ 0
+  unfolding table
+  entries-there = no-entry-differs (layoutOf form) (form-fits form) image (bodiesOf s ++ (nameBody form (c .name) ++ (fillerOf form ++ sum))) in-parts
 
   -- ---- the bodies
 
@@ -178,46 +186,23 @@ module _ (c : Contents) (held : HeldContents c) (allowed : isAllowed (c .setting
       let size : length (fillerOf form) ≡ 1020 - fillerAt form = length-replicate (1020 - bodiesEnd (layoutOf form)) 0xFF ∙ omega (arith, bodies-end form) in
       rw (bodies-end form, part-there image (fillerAt form) (1020 - fillerAt form) (fillerOf form) sum there size, bodies-end form, replicate-all-are 0xFF (1020 - fillerAt form))
 
-  values-each : (k : ℕ) → getD (valuesOf (s .shown)) k 0 < 256
-  values-each =
-      let v = allowed-values (s .shown) allowed in
-      let shown = s .shown in
-      each-cons (shown .«reset_mode») (shown .alert ∷ (bytesOf 2 (shown .readout) ++ (shown .«settings_protected» ∷ 0 ∷ []))) (omega arith)
-      (each-cons (shown .alert) (bytesOf 2 (shown .readout) ++ (shown .«settings_protected» ∷ 0 ∷ [])) (omega arith)
-      (each-append (bytesOf 2 (shown .readout)) (shown .«settings_protected» ∷ 0 ∷ []) (each-bytesOf 2 (shown .readout))
-      (each-cons (shown .«settings_protected») (0 ∷ []) (omega arith) (each-cons 0 [] (omega arith) each-none))))
-
-  numbers-each : (k : ℕ) → getD (numbersOf (s .shown)) k 0 < 256
-  numbers-each =
-      let shown = s .shown in
-      each-append (bytesOf 4 (shown .«bcr_id»)) (bytesOf 4 (shown .«bsl_id») ++ bytesOf 4 (shown .«version_pointer»)) (each-bytesOf 4 (shown .«bcr_id»))
-      (each-append (bytesOf 4 (shown .«bsl_id»)) (bytesOf 4 (shown .«version_pointer»)) (each-bytesOf 4 (shown .«bsl_id»)) (each-bytesOf 4 (shown .«version_pointer»)))
-
-  bodies-each : (k : ℕ) → getD (bodiesOf s) k 0 < 256
+  six-each : (k : ℕ) → getD (bodiesOf s) k 0 < 256
   unfolding bodiesOf
-  bodies-each =
+  six-each =
       let h = held .settings in
-      each-append (s .password) (s .«reset_password» ++ (valuesOf (s .shown) ++ (numbersOf (s .shown) ++ s .protection))) (h .password .each)
-      (each-append (s .«reset_password») (valuesOf (s .shown) ++ (numbersOf (s .shown) ++ s .protection)) (h .reset .each)
-      (each-append (valuesOf (s .shown)) (numbersOf (s .shown) ++ s .protection) values-each
-      (each-append (numbersOf (s .shown)) (s .protection) numbers-each (h .protection .each))))
+      bodies-each (s .shown) allowed (s .password) (s .«reset_password») (s .protection) (h .password .each) (h .reset .each) (h .protection .each)
 
   front-each : (k : ℕ) → getD front k 0 < 256
   unfolding front
   front-each =
       each-append (pairsOf (tableOf (layoutOf form))) (allBodiesOf c ++ fillerOf form) (each-pairs (tableOf (layoutOf form)))
       (each-append (allBodiesOf c) (fillerOf form)
-      (each-append (bodiesOf s) (nameBody form (c .name)) bodies-each (each-name (c .name) [] [] form (held .name .each)))
+      (each-append (bodiesOf s) (nameBody form (c .name)) six-each (each-name (c .name) [] [] form (held .name .each)))
       (each-replicate (1020 - bodiesEnd (layoutOf form)) 0xFF (omega arith)))
 
   checksum-same : checksumDiffers image ≡ false
-  unfolding checksumDiffers sum
-  checksum-same =
-      let there : numberAt 1020 4 (front ++ sum) ≡ checksumOf front =
-      ap (λ (l : List ℕ). numberOf (take 4 l)) (drop-at front sum 1020 front-size)
-      ∙ ap numberOf (take-all 4 sum (omega (arith, length-bytesOf 4 (checksumOf front))))
-      ∙ number-of-bytes 4 (checksumOf front) (checksum-of-fits front front-each) in
-      rw (image-is, there, take-at front sum 1020 front-size, eq-eqb (checksumOf front) (checksumOf front) refl)
+  unfolding sum
+  checksum-same = checksum-there image front [] (image-is ∙ ap (λ (l : List ℕ). front ++ l) (sym (append-nil sum))) front-size front-each
 
   -- ---- the reader finds nothing wrong with it
 
@@ -232,7 +217,7 @@ module _ (c : Contents) (held : HeldContents c) (allowed : isAllowed (c .setting
     written = not-blank;
     checksum = checksum-same;
     known = form-there;
-    entries = no-entry-differs;
+    entries = entries-there;
     filler = filler-same;
     value = values-allowed;
   }

@@ -20,7 +20,7 @@ use Rattle.claims.proofs.Secrecy.ToldApartFromC.{two-boards-are-alike-f
 use Rattle.claims.proofs.Trials.SomeBoards.{unnamed-is-held, chosen-is-allowed, reset-are-alike}
 
 -- each byte that is lent is one: an image that was written is made of bytes
-pub reset-is-lent : (guard byte main : ℕ) (area : List ℕ) → guard ≤ 1 → byte < 256 → length area ≡ recordSize → Lent (resetBoard guard byte main) area
+pub reset-is-lent : (guard byte main : ℕ) (area : List ℕ) → guard ≤ 1 → byte < 256 → length area ≡ recordSize mspm0 → Lent mspm0 (resetBoard guard byte main) area
 unfolding writtenBoard
 reset-is-lent guard byte main area bit small size = record {
   bytes =
@@ -31,7 +31,7 @@ reset-is-lent guard byte main area bit small size = record {
 }
 
 -- two of them, each with any record area of the size
-module _ (oneArea otherArea : List ℕ) (oneSize : length oneArea ≡ recordSize) (otherSize : length otherArea ≡ recordSize) (sendings : List Sending) where
+module _ (oneArea otherArea : List ℕ) (oneSize : length oneArea ≡ recordSize mspm0) (otherSize : length otherArea ≡ recordSize mspm0) (sendings : List Sending) where
   two-reset-from-C : (guard : ℕ) → guard ≤ 1 → AlikeSessionsFromC mspm0 (resetBoard guard 0x11 0x66) (resetBoard guard 0x22 0x77) oneArea otherArea sendings
   two-reset-from-C guard bit =
       two-boards-are-alike-from-C mspm0 mspm0-is-sound (resetBoard guard 0x11 0x66) (resetBoard guard 0x22 0x77) oneArea otherArea (reset-are-alike guard bit)

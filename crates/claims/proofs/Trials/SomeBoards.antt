@@ -11,6 +11,8 @@ use Rattle.octets.specs.Number.{numberOf, isMultiple}
 use Rattle.octets.proofs.Parts.{each-cons, each-replicate}
 use Rattle.parts.specs.Parts.{mspm0}
 use Rattle.settings.specs.declared.Settings.{Settings}
+use Rattle.settings.specs.declared.Kept.{Kept}
+use Rattle.settings.specs.Kept.{filledUp, keptOf}
 use Rattle.settings.specs.Values.{isAllowed, noName, blankSettings}
 use Rattle.settings.specs.declared.Form.{Form}
 use Rattle.settings.specs.declared.Form.the-variants.{One, Two}
@@ -22,18 +24,19 @@ use Rattle.settings.specs.Writer.{nameFits}
 use Rattle.session_judge.specs.Unlocking.{alertReset}
 use Rattle.session_act.specs.Info.{versionAt}
 use Rattle.flash.specs.Regions.{isMainSize}
-use Rattle.session.specs.Starting.{startRead, startOf}
+use Rattle.settings.specs.Layout.{imageSize}
+use Rattle.session.specs.Starting.{startRead, settingsRead, startOf}
 use Rattle.claims.specs.Held.{Held, HeldContents}
 use Rattle.claims.specs.TwoBoards.{Images, settingsOf, AlikeBoards}
 use Rattle.claims.specs.Trials.{mainSize, windowOf, blankBoard, chosenBy, chosen, writtenBoard, namedBoard, quietBoard, resetBoard, namedStrict, nameOf, formOf, Differ}
 use Rattle.claims.proofs.Settings.SettingsRule.{image-reads, blank-reads, no-name-fits}
-use Rattle.claims.proofs.Sessions.CallRules.{accepted-is-allowed}
+use Rattle.claims.proofs.Sessions.CallRules.{accepted-has-size, small-is-taken}
 
 -- ---- the boards start, with the settings that were chosen
 
 -- settings that are taken of an image
 abbrev pub taken : Settings → SettingsTold
-taken settings = record { number = 0; entry = 0; settings = settings }
+taken settings = record { number = 0; entry = 0; settings = keptOf settings }
 
 -- a board of a right size, of which the reader accepts these settings
 pub record Good (images : Images) (settings : Settings) : Type 0 where
@@ -41,11 +44,18 @@ pub record Good (images : Images) (settings : Settings) : Type 0 where
   pub window : length (images .window) ≡ mspm0 .«window_size»
   pub read : settingsOnly (readOf (images .settings)) ≡ taken settings
 
+-- so its settings flash has the MSPM0's size, and a start takes these settings
+good-size : (images : Images) (settings : Settings) → Good images settings → length (images .settings) ≡ imageSize
+good-size images settings good = accepted-has-size mspm0 (images .settings) (ap (λ (told : SettingsTold). told .number) (good .read))
+
+pub good-read : (images : Images) (settings : Settings) → Good images settings → settingsRead (images .settings) ≡ taken settings
+good-read images settings good = small-is-taken mspm0 (images .settings) (good-size images settings good) ∙ good .read
+
 pub starts : (images : Images) (settings : Settings) → Good images settings → startOf mspm0 false (images .main) (images .settings) (images .window) .answer .number ≡ 0
 unfolding startOf startRead isMainSize isMultiple pick
 starts images settings good =
-    let number : readOf (images .settings) .number ≡ 0 = ap (λ (told : SettingsTold). told .number) (good .read) in
-    let long = accepted-is-allowed mspm0 (images .settings) number .1 in
+    let number : settingsRead (images .settings) .number ≡ 0 = ap (λ (told : SettingsTold). told .number) (good-read images settings good) in
+    let long = good-size images settings good in
     rw (good .size, long, good .window, number)
 
 -- a window that is one byte all through
@@ -117,28 +127,28 @@ reset-is-good guard byte main bit small = written-is-good alertReset guard guard
 module _ (one other : Images) (oneSettings otherSettings : Settings) (oneGood : Good one oneSettings) (otherGood : Good other otherSettings) where
   -- what is read of both, by what was written
   by-reading : {A : Type 0} (ofOne ofOther : SettingsTold → A) → ofOne (taken oneSettings) ≡ ofOther (taken otherSettings)
-      → ofOne (settingsOnly (readOf (one .settings))) ≡ ofOther (settingsOnly (readOf (other .settings)))
-  by-reading ofOne ofOther same = ap ofOne (oneGood .read) ∙ same ∙ sym (ap ofOther (otherGood .read))
+      → ofOne (settingsRead (one .settings)) ≡ ofOther (settingsRead (other .settings))
+  by-reading ofOne ofOther same = ap ofOne (good-read one oneSettings oneGood) ∙ same ∙ sym (ap ofOther (good-read other otherSettings otherGood))
 
   pub are-alike : oneSettings .shown ≡ otherSettings .shown → oneSettings .protection ≡ otherSettings .protection
-      → versionAt (oneSettings .shown .«version_pointer») (one .main) ≡ versionAt (otherSettings .shown .«version_pointer») (other .main)
+      → versionAt 4 (oneSettings .shown .«version_pointer») (one .main) ≡ versionAt 4 (otherSettings .shown .«version_pointer») (other .main)
       → AlikeBoards mspm0 one other
   are-alike shown protection version = record {
     oneStarts = starts one oneSettings oneGood;
     otherStarts = starts other otherSettings otherGood;
     size = oneGood .size ∙ sym (otherGood .size);
     shown = by-reading (λ told. told .settings .shown) (λ told. told .settings .shown) shown;
-    protection = by-reading (λ told. told .settings .protection) (λ told. told .settings .protection) protection;
+    protection = by-reading (λ told. told .settings .protection) (λ told. told .settings .protection) (ap filledUp protection);
     version =
-        by-reading (λ told. versionAt (told .settings .shown .«version_pointer») (one .main))
-        (λ told. versionAt (told .settings .shown .«version_pointer») (other .main)) version;
+        by-reading (λ told. versionAt 4 (told .settings .shown .«version_pointer») (one .main))
+        (λ told. versionAt 4 (told .settings .shown .«version_pointer») (other .main)) version;
   }
 
   -- passwords differ by their first bytes
-  first-differs : (of : Settings → List ℕ) → (getD (of oneSettings) 0 0 ≡ getD (of otherSettings) 0 0 → ⊥) → of (settingsOf one) ≡ of (settingsOf other) → ⊥
+  first-differs : (of : Kept → List ℕ) → (getD (of (keptOf oneSettings)) 0 0 ≡ getD (of (keptOf otherSettings)) 0 0 → ⊥) → of (settingsOf one) ≡ of (settingsOf other) → ⊥
   first-differs of differs e =
       let firstOf : (SettingsTold → ℕ) = λ told. getD (of (told .settings)) 0 0 in
-      differs (sym (ap firstOf (oneGood .read)) ∙ ap (λ (bytes : List ℕ). getD bytes 0 0) e ∙ ap firstOf (otherGood .read))
+      differs (sym (ap firstOf (good-read one oneSettings oneGood)) ∙ ap (λ (bytes : List ℕ). getD bytes 0 0) e ∙ ap firstOf (good-read other otherSettings otherGood))
 
   differ : (place : ℕ) → (getD (oneSettings .password) 0 0 ≡ getD (otherSettings .password) 0 0 → ⊥)
       → (getD (oneSettings .«reset_password») 0 0 ≡ getD (otherSettings .«reset_password») 0 0 → ⊥)
@@ -147,14 +157,14 @@ module _ (one other : Images) (oneSettings otherSettings : Settings) (oneGood : 
     password = first-differs (λ settings. settings .password) password;
     resetPassword = first-differs (λ settings. settings .«reset_password») reset;
     main = λ e. main (ap (λ (bytes : List ℕ). getD bytes place 0) e);
-    settings = λ e. first-differs (λ settings. settings .password) password (ap (λ (image : List ℕ). readOf image .contents .settings .password) e);
+    settings = λ e. first-differs (λ settings. settings .password) password (ap (λ (image : List ℕ). settingsRead image .settings .password) e);
     window = λ e. window (ap (λ (bytes : List ℕ). getD bytes 0 0) e);
   }
 
 -- ---- a blank board, and a quiet one
 
 -- where the pointer is not good, the version is 0
-no-version : (main : List ℕ) → versionAt 0xFFFFFFFF main ≡ 0
+no-version : (main : List ℕ) → versionAt 4 0xFFFFFFFF main ≡ 0
 unfolding versionAt pick
 no-version main = refl
 
@@ -172,7 +182,7 @@ blank-and-quiet-differ =
 -- ---- two whose alert resets
 
 -- where it is, the version is the four bytes there
-pub reset-version : (guard byte main : ℕ) → versionAt 0 (resetBoard guard byte main .main) ≡ 0x55555555
+pub reset-version : (guard byte main : ℕ) → versionAt 4 0 (resetBoard guard byte main .main) ≡ 0x55555555
 unfolding versionAt writtenBoard numberOf pick
 reset-version guard byte main = refl
 
@@ -190,7 +200,7 @@ module _ (guard : ℕ) (bit : guard ≤ 1) where
 
 -- ---- two with names, and one with a name beside one without
 
-named-version : (name byte main : ℕ) → versionAt 0 (namedStrict name byte main .main) ≡ 0x55555555
+named-version : (name byte main : ℕ) → versionAt 4 0 (namedStrict name byte main .main) ≡ 0x55555555
 unfolding versionAt namedBoard numberOf pick
 named-version name byte main = refl
 

@@ -11,7 +11,6 @@ use Rattle.octets.specs.Choice.{pick}
 use Rattle.octets.specs.Number.{bytesOf}
 use Rattle.octets.proofs.Parts.{parts-join}
 use Rattle.parts.specs.Parts.{mspm0}
-use Rattle.parts.proofs.PartLaws.{mspm0-is-sound}
 use Rattle.line.specs.Codes.{replyLimit, unlock, isOneOf}
 use Rattle.line.specs.Packet.{coreIn}
 use Rattle.line.proofs.PacketLaws.{unlock-is-password}
@@ -22,6 +21,7 @@ use Rattle.line.proofs.ReplyLaws.{message-bytes}
 use Rattle.session_state.specs.declared.Standing.{Standing}
 use Rattle.session_state.specs.Phases.{mostSleep, atStart}
 use Rattle.settings.specs.declared.Settings.{Settings}
+use Rattle.settings.specs.Kept.{filledUp}
 use Rattle.settings.specs.Answers.{SettingsTold}
 use Rattle.flash.specs.Memory.{Memory, memory}
 use Rattle.flash.specs.declared.Region.the-variants.{Outside}
@@ -44,7 +44,7 @@ use Rattle.claims.proofs.Sessions.CallRules.{valid-is-served, started-i
 use Rattle.claims.proofs.Secrecy.LockedBoard.{imageThen, alertOf, memoryThen, sessionThen, later, Locked, started-is-later, started-is-locked}
 use Rattle.claims.proofs.Secrecy.LockedCall.{verdict, call-is, stays-locked}
 use Rattle.claims.proofs.Trials.SomePackets.{connect-core, unlock-core, unlock-is-fine, unlock-is-read, stood, connect-connects, tried-awake, first-is-counted, second-is-counted, third-is-counted}
-use Rattle.claims.proofs.Trials.SomeBoards.{Good, starts, reset-is-good}
+use Rattle.claims.proofs.Trials.SomeBoards.{good-read, Good, starts, reset-is-good}
 
 -- a running board stands locked
 pub record Stands (images : Images) (board : Running) (standing : Standing) : Type 0 where
@@ -60,7 +60,7 @@ module _ (images : Images) (settings : Settings) (good : Good images settings) w
 
   pub not-carried : (packet core : List ℕ) → coreIn packet ≡ core → (core ≡ unlock ∷ settings .password → ⊥) → Carries mspm0 packet (settingsOf images .password) → ⊥
   not-carried packet core there other carries =
-      other (sym there ∙ carries .core ∙ ap (λ (told : SettingsTold). unlock ∷ told .settings .password) (good .read))
+      other (sym there ∙ carries .core ∙ ap (λ (told : SettingsTold). unlock ∷ told .settings .password) (good-read images settings good))
 
   pub connect-is-strange : Carries mspm0 (connects .packet) (settingsOf images .password) → ⊥
   connect-is-strange = not-carried (connects .packet) _ connect-core (λ e. omega (arith, ap (λ (bytes : List ℕ). getD bytes 0 0) e))
@@ -74,7 +74,7 @@ module _ (images : Images) (settings : Settings) (good : Good images settings) w
 
   stands-at-start : Stands images (started mspm0 images) atStart
   stands-at-start =
-      record { so = started-is-later mspm0 images (starts images settings good); locked = started-is-locked mspm0 images (starts images settings good) mspm0-is-sound }
+      record { so = started-is-later mspm0 images (starts images settings good); locked = started-is-locked mspm0 images (starts images settings good) }
 
   module _ (board : Running) (standing : Standing) (stands : Stands images board standing) where
     -- a call without its password
@@ -86,7 +86,7 @@ module _ (images : Images) (settings : Settings) (good : Good images settings) w
           ap (λ (board : Running). next (called mspm0 board sending (sending .oneArea))) (stands .so)
           ∙ ap next (call-is mspm0 images standing (stands .locked) sending (sending .oneArea) stranger room)
           ∙ ap (later mspm0 images) e;
-      locked = subst (Locked mspm0 images) e (stays-locked mspm0 images standing (stands .locked) sending (sending .oneArea) stranger room mspm0-is-sound);
+      locked = subst (Locked mspm0 images) e (stays-locked mspm0 images standing (stands .locked) sending (sending .oneArea) stranger room);
     }
 
     -- an Unlock with another one
@@ -111,7 +111,7 @@ module _ (images : Images) (settings : Settings) (good : Good images settings) w
     unfolding serveOf
     unlock-is-tried-at board standing stands wrong awake right compared =
         let core = sym (unlock-is-password (mspm0 .«last_rate») (unlocks byte .packet) (unlock-is-fine byte small) (unlock-is-read byte)) ∙ unlock-core byte in
-        let bit = ap₂ areSame (ap (λ (told : SettingsTold). told .settings .password) (good .read)) (ap (drop 1) core) ∙ compared in
+        let bit = ap₂ areSame (ap (λ (told : SettingsTold). told .settings .password) (good-read images settings good)) (ap (drop 1) core) ∙ compared in
         ap (λ (board : Running). called mspm0 board (unlocks byte) (unlocks byte .oneArea)) (stands .so)
         ∙ valid-is-served mspm0 (sessionThen images standing) _ 2000 (unlocks byte .packet) (unlocks byte .oneArea) (stands .locked .valid) (stands .locked .window) (room 0)
         ∙ ap (followed mspm0 (sessionThen images standing) _ (unlocks byte .packet) (unlocks byte .oneArea))
@@ -158,16 +158,16 @@ all-erased count image = erase-all-of-open sectorSize (replicate count 0) image 
 
 -- where the first of two sectors is protected, the second is erased
 pub second-erased : (main : List ℕ) → length main ≡ mainSize
-    → imageThen sectorSize true (1 ∷ replicate 7 0) main ≡ take sectorSize main ++ replicate sectorSize 0xFF
+    → imageThen sectorSize true (1 ∷ replicate 31 0) main ≡ take sectorSize main ++ replicate sectorSize 0xFF
 unfolding imageThen mayChange isProtected pick
 second-erased main size =
-    let erased : List ℕ = eraseAllOf sectorSize (1 ∷ replicate 7 0) main in
-    let long : length erased ≡ mainSize = erase-all-keeps-length sectorSize (1 ∷ replicate 7 0) 0 0 main ∙ size in
+    let erased : List ℕ = eraseAllOf sectorSize (1 ∷ replicate 31 0) main in
+    let long : length erased ≡ mainSize = erase-all-keeps-length sectorSize (1 ∷ replicate 31 0) 0 0 main ∙ size in
     sym (take-all mainSize erased (omega (arith, long)))
     ∙ sym (parts-join 0 sectorSize sectorSize erased)
     ∙ ap₂ (λ (front back : List ℕ). front ++ back)
-    (erase-all-in-one-sector sectorSize (1 ∷ replicate 7 0) main 0 sectorSize (omega arith) (omega (arith, size)))
-    (erase-all-in-one-sector sectorSize (1 ∷ replicate 7 0) main sectorSize sectorSize (omega arith) (omega (arith, size)))
+    (erase-all-in-one-sector sectorSize (1 ∷ replicate 31 0) main 0 sectorSize (omega arith) (omega (arith, size)))
+    (erase-all-in-one-sector sectorSize (1 ∷ replicate 31 0) main sectorSize sectorSize (omega arith) (omega (arith, size)))
 
 -- and where the one sector is protected, all is kept
 pub all-kept : (image : List ℕ) → length image ≡ sectorSize → imageThen sectorSize true (1 ∷ []) image ≡ image
@@ -180,7 +180,7 @@ module _ (images : Images) (settings : Settings) (good : Good images settings)
     (reset : settings .shown .alert ≡ alertReset) (other : 0x33 ≡ getD (settings .password) 0 0 → ⊥)
   where
     pub resets : alertOf images ≡ alertReset
-    resets = ap (λ (told : SettingsTold). told .settings .shown .alert) (good .read) ∙ reset
+    resets = ap (λ (told : SettingsTold). told .settings .shown .alert) (good-read images settings good) ∙ reset
 
     pub guessed-twice : Stands images (ran (started mspm0 images) twoGuesses) (stood mostSleep 2)
     guessed-twice =
@@ -201,19 +201,19 @@ module _ (images : Images) (settings : Settings) (good : Good images settings)
 
     -- the third one strikes; what the strike leaves follows from the bits
     pub strike-leaves : ran (started mspm0 images) threeGuesses .memory
-        ≡ memory (imageThen sectorSize true (settings .protection) (images .main)) (imageThen sectorSize true (settingsProtection (settings .shown)) (images .settings)) (images .window)
+        ≡ memory (imageThen sectorSize true (filledUp (settings .protection)) (images .main)) (imageThen sectorSize true (settingsProtection (settings .shown)) (images .settings)) (images .window)
     strike-leaves =
         ap (λ (board : Running). board .memory) (guessed .so)
         ∙ ap (memoryThen mspm0 images) (struck-at-three .1)
         ∙ ap (λ (told : SettingsTold). memory (imageThen sectorSize true (told .settings .protection) (images .main))
-        (imageThen sectorSize true (settingsProtection (told .settings .shown)) (images .settings)) (images .window)) (good .read)
+        (imageThen sectorSize true (settingsProtection (told .settings .shown)) (images .settings)) (images .window)) (good-read images settings good)
 
 module _ (byte main : ℕ) (small : byte < 256) (other : 0x33 ≡ byte → ⊥) where
   -- where nothing is protected, all is erased
   pub three-guesses-erase : ran (started mspm0 (strictBoard byte main)) threeGuesses .memory ≡ allFF (strictBoard byte main)
   three-guesses-erase =
       strike-leaves (strictBoard byte main) _ (reset-is-good 0 byte main (omega arith) small) refl other
-      ∙ ap₂ (λ (flash image : List ℕ). memory flash image (strictBoard byte main .window)) (all-erased 8 _) (all-erased 1 _)
+      ∙ ap₂ (λ (flash image : List ℕ). memory flash image (strictBoard byte main .window)) (all-erased 32 _) (all-erased 1 _)
 
   -- where the first sector and the settings are protected, the second sector is erased
   pub three-guesses-keep : ran (started mspm0 (guardedBoard byte main)) threeGuesses .memory ≡ secondFF (guardedBoard byte main)
@@ -222,4 +222,4 @@ module _ (byte main : ℕ) (small : byte < 256) (other : 0x33 ≡ byte → ⊥) 
       ∙ ap₂ (λ (flash image : List ℕ). memory flash image (guardedBoard byte main .window)) (second-erased (guardedBoard byte main .main) (reset-is-good 1 byte main (omega arith) small .size)) (all-kept _ settings-size)
     where
       settings-size : length (guardedBoard byte main .settings) ≡ sectorSize
-      settings-size = record-by-clauses mspm0 _ _ _ (started-is-valid mspm0 false _ _ _ mspm0-is-sound (starts _ _ (reset-is-good 1 byte main (omega arith) small))) .settings
+      settings-size = record-by-clauses mspm0 _ _ _ (started-is-valid mspm0 false _ _ _ (starts _ _ (reset-is-good 1 byte main (omega arith) small))) .settings

@@ -7,7 +7,6 @@ use lib.ListN.{length, getD, take, replicate}
 use Rattle.octets.specs.Choice.{pick}
 use Rattle.octets.specs.Number.{numberOf, bytesOf, part}
 use Rattle.parts.specs.Parts.{mspm0}
-use Rattle.parts.proofs.PartLaws.{mspm0-is-sound}
 use Rattle.line.specs.declared.Reply.the-variants.{Bytes}
 use Rattle.line.specs.Replies.{coreReply, replyBytes}
 use Rattle.settings.specs.declared.Settings.{Settings}
@@ -21,7 +20,7 @@ use Rattle.session_act.specs.Board.{settingsProtection}
 use Rattle.session_act.specs.Info.{versionAt}
 use Rattle.claims.specs.TwoBoards.{Images, started, AlikeBoards, called, replied}
 use Rattle.claims.specs.Trials.{sectorSize, mainSize, windowOf, chosenBy, writtenBoard, strictBoard, connects, unlocks, ran}
-use Rattle.claims.proofs.Trials.SomeBoards.{Good, starts, window-sized, written-is-good, reset-is-good, are-alike}
+use Rattle.claims.proofs.Trials.SomeBoards.{Good, good-read, starts, window-sized, written-is-good, reset-is-good, are-alike}
 use Rattle.claims.proofs.Trials.SomeSessions.{none-protected, all-erased, second-erased}
 use Rattle.claims.specs.Visits.{Seen}
 use Rattle.claims_restarts.specs.Moves.{Sight, nowAfter, seenAfter, Throughout}
@@ -51,7 +50,7 @@ module _ (byte main : ℕ) (small : byte < 256) (other : 0x33 ≡ byte → ⊥) 
   exposed-is-struck =
       ap (fresh mspm0) (left-then exposed _ exposed-is-good refl other)
       ∙ ap₂ (λ (flash image : List ℕ). memory flash image (blanked keptMain .window)) (second-erased (exposed .main) (exposed-is-good .size))
-      (all-erased 1 (exposed .settings) ∙ ap (λ (size : ℕ). replicate size 0xFF) (settings-size mspm0 mspm0-is-sound exposed (starts exposed _ exposed-is-good)))
+      (all-erased 1 (exposed .settings) ∙ ap (λ (size : ℕ). replicate size 0xFF) (settings-size mspm0 exposed (starts exposed _ exposed-is-good)))
 
   -- and its first bytes are read, as they were at first
   pub exposed-is-read : lastReply (seenAfter (portOne mspm0) exposed (opening untilStruck)) ≡ replyBytes Bytes (part 0 shownCount (exposed .main))
@@ -69,9 +68,9 @@ module _ (byte main : ℕ) (small : byte < 256) where
   settings-are-blank =
       let good = reset-is-good 0 byte main (omega arith) small in
       ap (λ (settings : List ℕ). memory (strict .main) settings (blanked (strict .main) .window))
-      (ap (λ (told : SettingsTold). eraseAllOf sectorSize (settingsProtection (told .settings .shown)) (strict .settings)) (good .read)
+      (ap (λ (told : SettingsTold). eraseAllOf sectorSize (settingsProtection (told .settings .shown)) (strict .settings)) (good-read strict _ good)
       ∙ erase-all-of-open sectorSize (0 ∷ []) (strict .settings) (omega arith) (λ place there. none-protected 1 (place / sectorSize))
-      ∙ ap (λ (size : ℕ). replicate size 0xFF) (settings-size mspm0 mspm0-is-sound strict (starts strict _ good)))
+      ∙ ap (λ (size : ℕ). replicate size 0xFF) (settings-size mspm0 strict (starts strict _ good)))
 
   pub settings-first-is-read : lastReply (seenAfter (portOne mspm0) (settingsFirst strict) (opening [])) ≡ replyBytes Bytes (part 0 shownCount (strict .main))
   settings-first-is-read =

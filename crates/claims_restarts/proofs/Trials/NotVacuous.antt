@@ -12,8 +12,8 @@ use Rattle.octets.proofs.AlikeLaws.{equal-are-same}
 use Rattle.parts.specs.Parts.{mspm0}
 use Rattle.parts.proofs.PartLaws.{mspm0-is-sound}
 use Rattle.session_state.specs.Phases.{mostSleep, isUnlocked}
-use Rattle.settings.specs.Answers.{SettingsTold, settingsOnly}
-use Rattle.settings.specs.Reader.{readOf}
+use Rattle.settings.specs.Answers.{SettingsTold}
+use Rattle.session.specs.Starting.{settingsRead}
 use Rattle.flash.specs.Memory.{Memory, memory}
 use Rattle.flash.specs.Protection.{isProtected, mayChange}
 use Rattle.flash.proofs.ProtectionLaws.{changed-at}
@@ -28,7 +28,7 @@ use Rattle.claims.proofs.Secrecy.LockedBoard.{imageThen, memoryThen, later}
 use Rattle.claims.proofs.Secrecy.LockedCall.{verdict}
 use Rattle.claims.proofs.Trials.SomePackets.{stood, tried-asleep}
 use Rattle.claims.proofs.Trials.SomeBoards as boards
-use Rattle.claims.proofs.Trials.SomeBoards.{taken, Good, reset-is-good, reset-are-alike}
+use Rattle.claims.proofs.Trials.SomeBoards.{taken, Good, good-read, reset-is-good, reset-are-alike}
 use Rattle.claims.proofs.Trials.NotVacuousFromC.{reset-is-lent}
 use Rattle.claims.proofs.Trials.SomeSessions.{unlock-is-strange, unlock-is-tried-at, none-protected, resets, guessed-twice, guessed, struck-at-three, second-erased, all-kept}
 use Rattle.claims_restarts.specs.Moves.{Move, Send, Cut, Now, moved, nowAfter, seenAfter, Throughout}
@@ -65,8 +65,8 @@ other-now-is-good : Good (fresh mspm0 otherStrict) (chosen alertReset 0 0 0x22)
 other-now-is-good = now-is-good otherStrict _ other-is-good refl (λ e. omega arith)
 
 -- what the reader takes of the one board
-one-reads : {A : Type 0} (of : SettingsTold → A) → of (settingsOnly (readOf (oneStrict .settings))) ≡ of (taken (chosen alertReset 0 0 0x11))
-one-reads of = ap of (one-is-good .read)
+one-reads : {A : Type 0} (of : SettingsTold → A) → of (settingsRead (oneStrict .settings)) ≡ of (taken (chosen alertReset 0 0 0x11))
+one-reads of = ap of (good-read oneStrict _ one-is-good)
 
 -- with the start after the session that was struck the condition is over: the password of the one board is sent, and it is not asked about
 over-then : isOver mspm0 oneStrict (starts 0 ∷ untilStruck) ≡ true
@@ -83,7 +83,7 @@ return-is-asked =
       alert = one-reads (λ told. told .settings .shown .alert);
       returning = record {
         boards = reset-are-alike 0 (omega arith);
-        sectors = λ place there. one-reads (λ told. isProtected (told .settings .protection) (place / sectorSize)) ∙ none-protected 8 (place / sectorSize);
+        sectors = λ place there. one-reads (λ told. isProtected (told .settings .protection) (place / sectorSize)) ∙ none-protected 32 (place / sectorSize);
         settings = one-reads (λ told. told .settings .shown .«settings_protected»);
         room = after-roomy;
         without = (
@@ -121,10 +121,10 @@ return-is-asked =
     }
 
 -- and so it is from C
-area-size : (byte : ℕ) → length (replicate recordSize byte) ≡ recordSize
-area-size byte = length-replicate recordSize byte
+area-size : (byte : ℕ) → length (replicate (recordSize mspm0) byte) ≡ recordSize mspm0
+area-size byte = length-replicate (recordSize mspm0) byte
 
-records-lent : (fuse : ℕ) → HasRecords (starts fuse)
+records-lent : (fuse : ℕ) → HasRecords mspm0 (starts fuse)
 records-lent fuse = record { one = area-size 0; other = area-size 0xFF }
 
 pub return-is-asked-from-C : ReturningFromC mspm0 oneStrict otherStrict afterStruck
@@ -133,8 +133,8 @@ return-is-asked-from-C =
     record {
       returning = return-is-asked .returning;
       lent = record {
-        oneBytes = reset-is-lent 0 0x11 0x66 (replicate recordSize 0) (omega arith) (omega arith) (area-size 0) .bytes;
-        otherBytes = reset-is-lent 0 0x22 0x77 (replicate recordSize 0) (omega arith) (omega arith) (area-size 0) .bytes;
+        oneBytes = reset-is-lent 0 0x11 0x66 (replicate (recordSize mspm0) 0) (omega arith) (omega arith) (area-size 0) .bytes;
+        otherBytes = reset-is-lent 0 0x22 0x77 (replicate (recordSize mspm0) 0) (omega arith) (omega arith) (area-size 0) .bytes;
         records = (tt, (tt, (tt, (started, (tt, (tt, (tt, (tt, (started, (records-lent 1, (tt, (tt, (tt, (started, tt))))))))))))));
       };
     }
@@ -188,7 +188,7 @@ twice-kept : later mspm0 (fresh mspm0 oneStrict) (stood mostSleep 2) .memory ≡
 unfolding imageThen pick
 twice-kept = ap (memoryThen mspm0 (fresh mspm0 oneStrict)) (struck-at-three (fresh mspm0 oneStrict) _ one-now-is-good refl (λ e. omega arith) .0)
 
-cut-then : leftOf (nowAfter (portOne mspm0) oneStrict cutHistory) ≡ cutInMain mspm0 (replicate 8 0) firstSector (fresh mspm0 oneStrict)
+cut-then : leftOf (nowAfter (portOne mspm0) oneStrict cutHistory) ≡ cutInMain mspm0 (replicate 32 0) firstSector (fresh mspm0 oneStrict)
 cut-then =
     let twice = guessed-twice (fresh mspm0 oneStrict) _ one-now-is-good refl (λ e. omega arith) in
     let strange = unlock-is-strange (fresh mspm0 oneStrict) _ one-now-is-good 0x33 (λ e. omega arith) in
@@ -210,7 +210,7 @@ guarded-is-good = reset-is-good 1 0x11 0x66 (omega arith) (omega arith)
 pub advised-is-asked : Advised mspm0 (guardedBoard 0x11 0x66) (guardedBoard 0x22 0x77) untilStruck
 advised-is-asked = record {
   boards = reset-are-alike 1 (omega arith);
-  kept = λ e. ap (λ (told : SettingsTold). told .settings .shown .«settings_protected») (guarded-is-good .read);
+  kept = λ e. ap (λ (told : SettingsTold). told .settings .shown .«settings_protected») (good-read (guardedBoard 0x11 0x66) _ guarded-is-good);
   room = until-roomy;
   without =
       until-without (guardedBoard 0x11 0x66) (guardedBoard 0x22 0x77) _ _ guarded-is-good (reset-is-good 1 0x22 0x77 (omega arith) (omega arith))
@@ -221,4 +221,4 @@ pub advised-are-struck : leftOf (nowAfter (portOne mspm0) (guardedBoard 0x11 0x6
 advised-are-struck =
     left-then (guardedBoard 0x11 0x66) _ guarded-is-good refl (λ e. omega arith)
     ∙ ap₂ (λ (flash image : List ℕ). memory flash image (fresh mspm0 (guardedBoard 0x11 0x66) .window))
-    (second-erased (guardedBoard 0x11 0x66 .main) (guarded-is-good .size)) (all-kept (guardedBoard 0x11 0x66 .settings) (settings-size mspm0 mspm0-is-sound (guardedBoard 0x11 0x66) (boards.starts (guardedBoard 0x11 0x66) _ guarded-is-good)))
+    (second-erased (guardedBoard 0x11 0x66 .main) (guarded-is-good .size)) (all-kept (guardedBoard 0x11 0x66 .settings) (settings-size mspm0 (guardedBoard 0x11 0x66) (boards.starts (guardedBoard 0x11 0x66) _ guarded-is-good)))

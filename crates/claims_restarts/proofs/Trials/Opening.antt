@@ -16,7 +16,6 @@ use Rattle.octets.proofs.Parts.{part-there, length-part, each-cons, each-append
 use Rattle.octets.proofs.Numbers.{each-bytesOf}
 use Rattle.octets.proofs.Searching.{none-found}
 use Rattle.parts.specs.Parts.{mspm0}
-use Rattle.parts.proofs.PartLaws.{mspm0-is-sound}
 use Rattle.checksum.specs.Checksum.{checksumOf}
 use Rattle.line.specs.Codes as codes
 use Rattle.line.specs.Codes.{replyLimit, acknowledged, isOneOf}
@@ -35,6 +34,7 @@ use Rattle.session_state.specs.Waits.{isIdleTooLong, commandIdles, passTime}
 use Rattle.settings.specs.declared.Settings.{Settings}
 use Rattle.settings.specs.Values.{isAllowed, blankSettings}
 use Rattle.settings.specs.Layout.{imageSize}
+use Rattle.settings.specs.Kept.{keptOf, blankKept}
 use Rattle.settings.specs.Answers.{SettingsTold, ReadTold, accepted, settingsOnly}
 use Rattle.settings.specs.Reader.{readOf}
 use Rattle.settings.specs.Image.{imageOf}
@@ -69,10 +69,10 @@ use Rattle.claims.proofs.Settings.Written.{each-of-image}
 use Rattle.claims.proofs.Trials.Framing.{never-empty, length-there, framed}
 use Rattle.claims.proofs.Settings.SettingsRule.{image-reads, blank-reads, no-name-fits}
 use Rattle.claims.proofs.Sessions.WrittenRule.{blank-program-is-obeyed}
-use Rattle.claims.proofs.Sessions.CallRules.{accepted-is-allowed, valid-is-served}
+use Rattle.claims.proofs.Sessions.CallRules.{accepted-has-size, valid-is-served}
 use Rattle.claims.proofs.Secrecy.LockedBoard.{imageThen, alertOf, memoryThen}
 use Rattle.claims.proofs.Trials.SomePackets.{stood}
-use Rattle.claims.proofs.Trials.SomeBoards.{Good, starts, unnamed-is-held, chosen-is-allowed}
+use Rattle.claims.proofs.Trials.SomeBoards.{Good, good-read, starts, unnamed-is-held, chosen-is-allowed}
 use Rattle.claims.proofs.Trials.SomeSessions.{room, unlock-is-tried, none-protected}
 use Rattle.claims_restarts.specs.Moves.{Move, nowAfter, seenAfter}
 use Rattle.claims_restarts.specs.Boards.{fresh, portOne}
@@ -88,7 +88,7 @@ unlockedStanding = afterRight (stood 0 0)
 
 abbrev unlockedBoard : Images → Settings → Running
 unlockedBoard images settings =
-    record { session = record { standing = unlockedStanding; «main_size» = mainSize; settings = settings }; memory = images }
+    record { session = record { standing = unlockedStanding; «main_size» = mainSize; settings = keptOf settings }; memory = images }
 
 -- a protected command is performed
 performed : (core : List ℕ) (task : Guarded) → acknowledgement (mspm0 .«last_rate») (packetOf core) ≡ acknowledged → commandOf (packetOf core) ≡ command.Guarded task
@@ -102,7 +102,7 @@ module _ (images : Images) (settings : Settings) (good : Good images settings) (
   where
     not-struck : isStruck (alertOf images) 0 ≡ false
     unfolding isStruck pick
-    not-struck = rw (ap (λ (told : SettingsTold). told .settings .shown .alert) (good .read) ∙ quiet) refl
+    not-struck = rw (ap (λ (told : SettingsTold). told .settings .shown .alert) (good-read images settings good) ∙ quiet) refl
 
     unlocked-now : next (called mspm0 (ran (started mspm0 images) (connects ∷ [])) (unlocks 0xFF) (unlocks 0xFF .oneArea)) ≡ unlockedBoard images settings
     unfolding tried imageThen pick
@@ -115,7 +115,7 @@ module _ (images : Images) (settings : Settings) (good : Good images settings) (
         ∙ ap₂ (λ (size : ℕ) (told : SettingsTold). record {
           session = record { standing = unlockedStanding; «main_size» = size; settings = told .settings };
           memory = images;
-        }) (good .size) (good .read)
+        }) (good .size) (good-read images settings good)
 
     unlocked-is-valid : isRecord mspm0 (unlockedBoard images settings .session) (length (images .main)) (length (images .settings)) ≡ true
     unfolding isValid isRate countsFit isMainSize isMultiple pick
@@ -125,7 +125,7 @@ module _ (images : Images) (settings : Settings) (good : Good images settings) (
           standing = refl;
           values = allowed;
           mainSize = refl;
-          settings = settings-size mspm0 mspm0-is-sound images (starts images settings good);
+          settings = settings-size mspm0 images (starts images settings good);
           main = good .size;
         })
 
@@ -162,7 +162,7 @@ image-is-read : readOf image ≡ accepted readableContents
 image-is-read = image-reads readableContents readable-is-held readable-is-allowed no-name-fits
 
 image-size : length image ≡ imageSize
-image-size = accepted-is-allowed mspm0 image (ap (λ (told : ReadTold). told .number) image-is-read) .1
+image-size = accepted-has-size mspm0 image (ap (λ (told : ReadTold). told .number) image-is-read)
 
 -- ---- they are written over blank ones
 
@@ -195,7 +195,7 @@ none-kept : firstKept (mspm0 .«sector_size») (0 ∷ []) 0 imageSize ≡ imageS
 unfolding firstKept mayChange pick
 none-kept = none-found _ imageSize _ 0 imageSize (λ k l u. ap (λ (bit : Bool). not (not bit)) (none-protected 1 (k / mspm0 .«sector_size»)))
 
-settings-place : placeOf mspm0 mainSize (blankSettings .protection) (blankSettings .shown .«settings_protected») (mspm0 .«settings_start») imageSize
+settings-place : placeOf mspm0 mainSize (blankKept .protection) (blankSettings .shown .«settings_protected») (mspm0 .«settings_start») imageSize
     ≡ record { region = region.Settings; offset = 0; «is_protected» = false; «first_protected» = 0 }
 unfolding placeOf liesWithin pick
 settings-place = rw none-kept refl
@@ -216,11 +216,11 @@ module _ (main : List ℕ) (size : length main ≡ mainSize) where
   blanked-is-good : Good (blanked main) blankSettings
   blanked-is-good = record { size = size; window = zeros-size mspm0; read = ap settingsOnly blank-reads }
 
-  program-is-planned : program mspm0 mainSize (blankSettings .protection) (blankSettings .shown .«settings_protected») (mspm0 .«settings_start») imageSize (blanked main)
+  program-is-planned : program mspm0 mainSize (blankKept .protection) (blankSettings .shown .«settings_protected») (mspm0 .«settings_start») imageSize (blanked main)
       ≡ orders codes.success (ProgramSettings 0 imageSize)
   unfolding isAligned isMultiple pick
   program-is-planned =
-      blank-program-is-obeyed mspm0 mainSize (blankSettings .protection) (blankSettings .shown .«settings_protected») (mspm0 .«settings_start») imageSize (blanked main)
+      blank-program-is-obeyed mspm0 mainSize (blankKept .protection) (blankSettings .shown .«settings_protected») (mspm0 .«settings_start») imageSize (blanked main)
       (ap (λ (place : Place). isOutside (place .region)) settings-place) (ap (λ (place : Place). isWindow (place .region)) settings-place) refl
       (ap (λ (place : Place). place .«is_protected») settings-place)
       (ap (λ (place : Place). allAre 0xFF (bytesAt place imageSize (blanked main))) settings-place ∙ all-blank)
@@ -234,7 +234,7 @@ module _ (main : List ℕ) (size : length main ≡ mainSize) where
   unfolding programs
   settings-written =
       ap (λ (left : Left). left .memory) (performs (blanked main) blankSettings blanked-is-good refl blank-is-allowed refl programCore _ program-is-fine program-is-read)
-      ∙ ap (λ (planned : Planned). carriedOut mspm0 (blankSettings .shown) (blankSettings .protection) (packetOf programCore) (blanked main) (planned .order)) program-is-planned
+      ∙ ap (λ (planned : Planned). carriedOut mspm0 (blankSettings .shown) (blankKept .protection) (packetOf programCore) (blanked main) (planned .order)) program-is-planned
       ∙ ap (λ (settings : List ℕ). memory main settings (blanked main .window))
       (ap (λ (bytes : List ℕ). programOf (mspm0 .«sector_size») (0 ∷ []) 0 bytes (replicate imageSize 0xFF)) data-there ∙ image-programmed)
 

@@ -10,10 +10,10 @@ use Rattle.octets.specs.Choice.{pick}
 use Rattle.octets.proofs.Searching.{pick-true, pick-false, by-test}
 use Rattle.octets.proofs.AlikeLaws.{equal-are-same}
 use Rattle.parts.specs.Parts.{mspm0}
-use Rattle.parts.proofs.PartLaws.{mspm0-is-sound}
 use Rattle.session_state.specs.Phases.{mostSleep, isUnlocked}
 use Rattle.settings.specs.declared.Settings.{Settings}
 use Rattle.settings.specs.Values.{blankSettings}
+use Rattle.settings.specs.Kept.{filledUp}
 use Rattle.settings.specs.Answers.{settingsOnly}
 use Rattle.flash.specs.Memory.{memory}
 use Rattle.session_judge.specs.Unlocking.{alertReset, tried}
@@ -114,7 +114,7 @@ module _ (images : Images) (settings : Settings) (good : Good images settings)
 
     -- and leaves what the bits say
     pub left-then : leftOf (nowAfter (portOne mspm0) images untilStruck)
-        ≡ memory (imageThen sectorSize true (settings .protection) (images .main)) (imageThen sectorSize true (settingsProtection (settings .shown)) (images .settings)) (now .window)
+        ≡ memory (imageThen sectorSize true (filledUp (settings .protection)) (images .main)) (imageThen sectorSize true (settingsProtection (settings .shown)) (images .settings)) (now .window)
     left-then = ap leftOf struck-now ∙ strike-leaves now settings now-is-good reset other
 
     -- by three at once it does too
@@ -137,14 +137,14 @@ module _ (byte main : ℕ) (small : byte < 256) (other : 0x33 ≡ byte → ⊥) 
   pub erased-then : leftOf (nowAfter (portOne mspm0) board untilStruck) ≡ erased
   erased-then =
       left-then board _ good-then refl other
-      ∙ ap₂ (λ (flash image : List ℕ). memory flash image (fresh mspm0 board .window)) (all-erased 8 (board .main)) (all-erased 1 (board .settings))
+      ∙ ap₂ (λ (flash image : List ℕ). memory flash image (fresh mspm0 board .window)) (all-erased 32 (board .main)) (all-erased 1 (board .settings))
 
   -- and the board is blank
   blank-then : Good erased blankSettings
   blank-then = record {
     size = length-replicate {A = ℕ} (length (board .main)) 0xFF ∙ good-then .size;
     window = zeros-size mspm0;
-    read = rw (settings-size mspm0 mspm0-is-sound board (starts board _ good-then)) (ap settingsOnly blank-reads);
+    read = rw (settings-size mspm0 board (starts board _ good-then)) (ap settingsOnly blank-reads);
   }
 
   -- a password that one of the boards had is wrong then, and that of a blank board is right

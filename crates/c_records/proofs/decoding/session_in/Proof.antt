@@ -13,4 +13,4 @@ session-in-spec =
     (λ c κs. search needs)
     (λ c κs. search needs)
     (λ c κs. search needs)
-    (λ c. rw (c .read-fields .ensures, c .before .number32-at .ensures, c .before .before .standing-in .ensures, c .before .before .before .part-of .ensures)))
+    (λ c. rw (c .read-kept .ensures, c .before .number32-at .ensures, c .before .before .standing-in .ensures, c .before .before .before .part-of .ensures)))

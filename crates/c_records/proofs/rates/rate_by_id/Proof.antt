@@ -10,7 +10,7 @@ pub rate-by-id-spec : {M : Type 1} → statement M
 rate-by-id-spec =
     tie.close
     (tie.spec
-    (λ c. sym (past-the-table _ _ (omega arith)))
+    (λ c. sym (past-the-table _ _ (omega arith) (λ e. omega arith)))
     (λ c. search needs)
     (λ c κs. search needs)
     (λ c. search needs))

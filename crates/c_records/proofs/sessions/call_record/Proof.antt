@@ -33,7 +33,7 @@ call-record-spec =
     let a = lent .before .args in
     let decoded = served .before .before .before .before .before .session-in in
     let kept = call-keeps-settings (a .part) (decoded .result) (memory (a .main .now) (a .settings .now) (a .window .now)) (a .wait) (a .packet .now) (a .reply .now) in (
-      next-stored (a .area .now) (λ k. lent .slice-known .given k .fits) (sym (known .before .is-record-area .ensures) ∙ not-false (known .before .is-record-area .result) (known .if3 .left)) (decoded .result) (served .call .result .session) (decoded .ensures)
+      next-stored (a .part) (a .area .now) (λ k. lent .slice-known .given k .fits) (sym (known .before .is-record-area .ensures) ∙ not-false (known .before .is-record-area .result) (known .if3 .left)) (decoded .result) (served .call .result .session) (decoded .ensures)
           (subst (λ (left : Left). left .session ≡ standsThen (decoded .result) (left .session .standing)) (sym (served .call .ensures)) kept),
       omega (arith, ap (λ left. left .answer .size) (served .call .ensures), call-size-fits (a .part) (decoded .result) (memory (a .main .now) (a .settings .now) (a .window .now)) (a .wait) (a .packet .now) (a .reply .now)),
     ))

@@ -9,4 +9,4 @@ refused-spec =
     (tie.spec
     (λ c κs. search needs)
     (λ c κs. search needs)
-    (λ c. rw (c .session-of .ensures, c .before .none .ensures)))
+    (λ c. rw (c .session-of .ensures, c .before .none-kept .ensures)))

@@ -1,7 +1,5 @@
--- `settings::fields_reader::protection_in` meets its contract: the body takes the whole array.
-use native.Mathlib.Omega.{arith}
+-- `settings::fields_reader::protection_in` meets its contract: the body at the start of zeros.
 use borrow.Author.Needs.{needs}
-use Rattle.settings.proofs.BodyLaws.{body-taken}
 use Rattle.settings.proofs.fields_reader.protection_in.Statement.{statement}
 use Rattle.settings.proofs.fields_reader.protection_in.Tie as tie
 
@@ -12,4 +10,4 @@ protection-in-spec =
     (λ c. search needs)
     (λ c κs. search needs)
     (λ c κs. search needs)
-    (λ c. rw (c .before .put .ensures, c .before .before .part-of .ensures) (body-taken 66 8 (c .before .before .before .before .before .args .fields .now) (omega arith))))
+    (λ c. rw (c .before .put .ensures, c .before .before .part-of .ensures)))

@@ -7,10 +7,10 @@ use Rattle.show_vectors.proofs.listing.show.Statement.{statement}
 use Rattle.show_vectors.proofs.listing.show.Tie as tie
 
 abbrev Inv-loop : tie.InvT-loop
-Inv-loop listing at₀ at = at ≤ length listing
+Inv-loop board listing at₀ at = at ≤ length listing
 
 abbrev μ-loop : tie.MeasureT-loop
-μ-loop listing at₀ at = length listing - at
+μ-loop board listing at₀ at = length listing - at
 
 pub show-spec : {M : Type 1} → statement M
 show-spec =
