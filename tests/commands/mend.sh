@@ -8,7 +8,8 @@ tools/is_current.sh target/bin/mend || rt check mend >"$work/log" 2>&1 || {
     cat "$work/log"
     exit 1
 }
-# The program is built, so its `rt check` is left out: the gate makes the library meanwhile.
+# The program is built, so its `rt check` is left out: within the gate it would be proved once more, since `rt ci` notes a program as
+# proved only when it has run it, at its end.
 mkdir "$work/bin"
 printf '#!/bin/sh\n[ "$1" = check ] || exec "%s" "$@"\n' "$(command -v rt)" >"$work/bin/rt"
 chmod +x "$work/bin/rt"

@@ -55,7 +55,7 @@ cmp tests/sessions/am13e230x/larger_session.expected crates/runner_am13e230x/std
 cmp "$work/printed" tests/sessions/commands/example.expected || complain "a script in pieces: not what is expected"
 
 # The command plays a text whose name has a space, and prints nothing else on standard output. The runner is built, so its `rt check` is left
-# out: the gate makes the library meanwhile, and two of them side by side overwrite each other's notes.
+# out: within the gate it would be proved once more, since `rt ci` notes a program as proved only when it has run it, at its end.
 cp tests/sessions/commands/example.txt "$work/two words.txt"
 mkdir "$work/bin"
 printf '#!/bin/sh\n[ "$1" = check ] || exec "%s" "$@"\n' "$(command -v rt)" >"$work/bin/rt"
