@@ -14,7 +14,7 @@ REQUESTS ?= ../shared/documents/02-change-requests.md
 export PREFIX DESTDIR N SCRIPT PART IMAGE OUT SCOPE REQUESTS
 
 help:
-	@sed "s/{crates}/$$(grep -c '^[a-z_0-9]*:' crates.txt)/" tools/help.txt
+	@sed "s/{crates}/$$(grep -Ec '^[a-z_0-9]+( staticlib)?:' crates.txt)/" tools/help.txt
 
 # The gate.
 test:
@@ -28,29 +28,29 @@ quick:
 # Without SCRIPT= it is the example of document 01; PART=am13e230x plays it to a board of that part.
 run:
 	@tools/sessions/look_at_script.sh "$$SCRIPT" "$$PART"
-	@tools/progress.py check runner$$([ "$$PART" = mspm0 ] || echo "_$$PART")
+	@tools/progress.py program runner$$([ "$$PART" = mspm0 ] || echo "_$$PART")
 	@tools/sessions/run_script.sh "$$SCRIPT" "$$PART"
 
 # A settings image mended: proves and builds the program, prints what it changed of IMAGE, and stores the mended image as OUT.
 mend:
 	@tools/mend/look_at_files.sh "$$IMAGE" "$$OUT"
-	@tools/progress.py check mend
+	@tools/progress.py program mend
 	@tools/mend/mend_image.sh "$$IMAGE" "$$OUT"
 
 # The settings reader and writer at work: proves the program and prints what it wrote.
 show:
-	@tools/progress.py check show_settings
-	@cat target/log/show_settings.stdout
+	@tools/progress.py program show_settings
+	@crates/show_settings/out/show_settings
 
 # A session at the sides of every limit, and each command accepted and refused.
 limits:
-	@tools/progress.py check show_limits
-	@cat target/log/show_limits.stdout
+	@tools/progress.py program show_limits
+	@crates/show_limits/out/show_limits <crates/show_limits/stdin
 
 # Every whole packet that the source documents print.
 vectors:
-	@tools/progress.py check show_vectors
-	@cat target/log/show_vectors.stdout
+	@tools/progress.py program show_vectors
+	@crates/show_vectors/out/show_vectors
 
 # The library for C: target/staticlib/libbhorelmu.a, to be linked beside include/bhorelmu.h.
 lib:

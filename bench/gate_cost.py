@@ -1,5 +1,5 @@
 """What the gate costs, crate by crate and for each file of wrong programs, from the lines that a gate run has printed: rewrites
-those tables of docs/BENCH.md.
+those tables of docs/BENCH.md. It reads the lines of rattle-kit-5b; later toolchains tell no seconds.
 
     make test | tee LOG; python3 -B bench/gate_cost.py LOG
 """
@@ -45,7 +45,7 @@ def main():
         raise SystemExit(f"{sys.argv[1]}: {error.strerror}; name a file with what the gate has printed")
     checks, edits = read(lines)
     if not checks:
-        raise SystemExit(f"{sys.argv[1]}: no crate is said to be proved")
+        raise SystemExit(f"{sys.argv[1]}: no line tells in how many seconds a crate was proved")
     programs = {name: len(programs_of(name)) for name in checks}
     rows = [row(name, check, programs[name], list(edits[name].values())) for name, check in checks.items()]
     all_edits = [seconds for each in edits.values() for seconds in each.values()]

@@ -16,7 +16,7 @@ from wrong_programs import files_of, programs_of
 
 def listed(text):
     """Each crate's line of crates.txt, and the crates that it names."""
-    return {line.split(":")[0]: (line, line.split(":")[1].split()) for line in text.splitlines() if re.match(r"\w+:", line)}
+    return {line.split(":")[0].split()[0]: (line, line.split(":")[1].split()) for line in text.splitlines() if re.match(r"\w+( staticlib)?:", line)}
 
 
 def stood_on(names, crates):
@@ -39,7 +39,7 @@ def main():
     wanted = stood_on(sys.argv[1:], crates)
     with tempfile.TemporaryDirectory() as place:
         for name in wanted:
-            shutil.copytree(f"crates/{name}", f"{place}/crates/{name}")
+            shutil.copytree(f"crates/{name}", f"{place}/crates/{name}", ignore=shutil.ignore_patterns("out"))
         lines = [line for name, (line, _) in crates.items() if name in wanted]
         pathlib.Path(place, "crates.txt").write_text("\n".join(lines) + "\n")
         began = time.time()

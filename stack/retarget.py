@@ -4,8 +4,8 @@
 
 What is changed: the target and its layout go, and with them the attributes that name x86-64; an exported function takes the size of
 an area as the core's size_t, and widens it to the 64 bits of Rattle's usize; an area may begin at the address 0, as MAIN does on a
-board. What is refused: all that could mean something else there. That is, a pointer that is read, stored or compared as a number, a
-load or store without its own alignment, a global, a call of anything but the module's functions and the intrinsics below, and an
+board, so an exported function no longer takes another place for one that begins there. What is refused: all that could mean something else there. That is, a pointer that is read, stored or compared as a number, a
+load or store without its own alignment, a global that is not a constant of plain bytes, a call of anything but the module's functions and the intrinsics below, and an
 exported function of another form."""
 import pathlib
 import re
@@ -13,15 +13,22 @@ import sys
 
 LAYOUT = 'target datalayout = "e-m:e-p270:32:32-p271:32:32-p272:64:64-i64:64-i128:128-f80:128-n8:16:32:64-S128"'
 TRIPLE = 'target triple = "x86_64-unknown-linux-gnu"'
-ATTRIBUTES = 'attributes #0 = { nounwind "probe-stack"="inline-asm" "target-cpu"="x86-64" }'
+ATTRIBUTES = 'attributes #0 = { nounwind "probe-stack"="inline-asm" "stack-probe-size"="3072" "target-cpu"="x86-64" }'
 ATTRIBUTES_THERE = "attributes #0 = { nounwind null_pointer_is_valid }"
-STEPS = set("add alloca and ashr br call getelementptr icmp load lshr mul or ret select sext shl store sub switch trunc udiv "
-            "unreachable urem xor zext".split())
+STEPS = set("add alloca and ashr br call extractvalue getelementptr icmp insertvalue load lshr mul or ret select sext shl store sub "
+            "switch trunc udiv unreachable urem xor zext".split())
 INTRINSICS = {"llvm.memmove.p0.p0.i64", "llvm.memcpy.p0.p0.i64", "llvm.memset.p0.i64", "llvm.trap"}
 WIDTHS = {"i1": 1, "i8": 1, "i16": 2, "i32": 4, "i64": 8, "ptr": 8}
 STEP = re.compile(r"^  (?:%\S+ = )?(?:tail |musttail |notail )?(\w+)(.*)$")
 EXPORT = re.compile(r"^define noundef (i32|i64) @(\w+)\((.*)\) #0 \{$")
 PLACE = re.compile(r"^  (%\w+) = getelementptr (?:inbounds nuw )?i8, ptr (%\w+), i64 (\d+)$")
+# Both processors have the least byte of a number first, so the same bytes are the same numbers there.
+BYTES = re.compile(r'^@static\.\d+ = private unnamed_addr constant \[\d+ x i8\] (?:c"[^"]*"|zeroinitializer), align \d+$')
+# An area at the address 0 is put elsewhere, for a reader of x86-64 code that takes no slice to begin there.
+ELSEWHERE = re.compile(r"""^  (%\w+) = icmp eq ptr (%a\d+), null
+  (%\w+) = zext i1 \1 to i64
+  (%\w+) = mul i64 \3, 4096
+  (%\w+) = getelementptr i8, ptr \2, i64 \4$""", re.M)
 ACCESS = re.compile(r"^  (?:%\w+ = load (\w+), ptr (%\w+),|store (\w+) \S+, ptr (%\w+),)")
 
 
@@ -43,7 +50,7 @@ def check_step(line):
 def check_line(line):
     if line.startswith("  ") and not line.startswith("    ") and line != "  ]":
         check_step(line)
-    if line.startswith("@"):
+    if line.startswith("@") and not BYTES.match(line):
         refuse("a global", line)
     if line.startswith("declare") and re.search(r"@([\w.]+)\(", line)[1] not in INTRINSICS:
         refuse("a call to the outside", line)
@@ -78,6 +85,16 @@ def check_size(name, variable, body):
         refuse(f"{variable} is not just the length of a slice", name)
 
 
+def where_it_lies(body):
+    """The lines of an exported function, each area where it lies, at the address 0 too. What it counted for that, nothing else may read."""
+    text = "\n".join(body)
+    for found in ELSEWHERE.finditer(text):
+        for made in (found[1], found[3], found[4]):
+            if len(re.findall(re.escape(made) + r"\b", text)) != 2:
+                refuse("a null pointer is counted for more than a place", found[0].split("\n")[0])
+    return ELSEWHERE.sub(r"  \5 = getelementptr i8, ptr \2, i64 0", text).split("\n")
+
+
 def widened(head, body):
     """An exported function that takes its sizes in 32 bits."""
     result, name, parameters = EXPORT.match(head).groups()
@@ -106,7 +123,7 @@ def retargeted(lines):
         check_line(line)
         if line.startswith("define "):
             end = lines.index("}", at)
-            body = lines[at + 1:end]
+            body = lines[at + 1:end] if line.startswith("define internal ") else where_it_lies(lines[at + 1:end])
             for inner in body:
                 check_line(inner)
             check_pointers(line, body)

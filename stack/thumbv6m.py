@@ -46,9 +46,14 @@ def maker(register, before):
 
 
 def is_table_jump(kind, register, before, following):
-    """Whether a jump goes where a table says: one that follows the jump, or one whose entry the register was loaded with."""
+    """Whether a jump goes where a table says: one that follows the jump, or one whose entry the register was loaded with; where it is added
+    to the place of the jump, twice the entry."""
     if kind == "add":
-        return bool(TABLE.match(next(line for line in following if not BESIDE_CODE.match(line))))
+        if TABLE.match(next(line for line in following if not BESIDE_CODE.match(line))):
+            return True
+        doubled, before = maker(register, before[:-1] if before[-1].startswith(".LCPI") else before)
+        if doubled != f"{register}, #1":
+            return False
     made, earlier = maker(register, before)
     entry = ENTRY.match(made)
     return bool(entry and TABLE.match(maker(entry[1], earlier)[0]))

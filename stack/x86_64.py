@@ -78,10 +78,10 @@ def jump_targets(name, steps, entries):
 def is_table_jump(steps, index):
     """Whether the register that is jumped by was made of an entry and the table's place."""
     register = steps[index].words.removeprefix("*")
-    makers = [step for step in steps[max(0, index - 8):index] if step.words.endswith("," + register)][-2:]
+    makers = [step for step in steps[max(0, index - 12):index] if step.words.endswith("," + register)][-2:]
     if [step.name for step in makers] != ["movslq", "add"]:
         return False
-    return makers[0].words.startswith(f"({makers[1].words.split(',')[0]},")
+    return makers[0].words.removeprefix("0x0").startswith(f"({makers[1].words.split(',')[0]},")
 
 
 def below_pointer(step):

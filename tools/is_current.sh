@@ -7,4 +7,4 @@ case ${1:-} in -h | --help) exec sed -n '2,/^[^#]/s/^# \{0,1\}//p' "$0" ;; esac
     echo "usage: tools/is_current.sh FILE" >&2
     exit 2
 }
-[ -f "$1" ] && [ -z "$(find crates crates.txt -newer "$1" -type f | head -n 1)" ]
+[ -f "$1" ] && [ -z "$(find crates crates.txt -path 'crates/*/out' -prune -o -newer "$1" -type f -print | head -n 1)" ]

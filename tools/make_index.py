@@ -166,7 +166,8 @@ def quotations_in(path, rules, requests):
 def index_of(rules, requests):
     """For each sentence, the files and definitions that quote it."""
     index = collections.defaultdict(dict)
-    for path in sorted(pathlib.Path("crates").rglob("*")):
+    # the prover leaves copies of definitions in crates/*/out
+    for path in sorted(path for part in ("src", "specs", "proofs") for path in pathlib.Path("crates").glob(f"*/{part}/**/*")):
         if path.suffix not in (".rt", ".antt"):
             continue
         try:

@@ -1,15 +1,15 @@
 #!/usr/bin/env python3
 """Runs `rt` and tells how far it is, one line at a time; what `rt` itself says goes into a log.
 
-    tools/progress.py check [CRATE..]     as rt check: proves the crates, and runs the programs among them
-    tools/progress.py staticlib CRATE     as rt staticlib: proves a crate and compiles it for C
-    tools/progress.py ci                  as rt ci: also tries every wrong program
+    tools/progress.py check [CRATE..]     as rt check in the folder of each crate, or as rt all check: proves crates
+    tools/progress.py program CRATE..     proves and builds programs: crates/CRATE/out/CRATE
+    tools/progress.py ci                  as rt ci, the gate: also tries every wrong program, and runs every program
 
-The log is target/rt_check.log, target/rt_staticlib.log or target/rt_ci.log. On a terminal the line is written over; elsewhere one is
-written each second at most. Where `rt` fails, the lines that say so are shown, or else the last ones, and the status is that of `rt`; it is
-2 for wrong use.
+The log is target/rt_check.log, target/rt_program.log or target/rt_ci.log. On a terminal the line is written over; elsewhere one is written
+each second at most. Where `rt` fails, the lines that say so are shown, or else the last ones, and the status is that of `rt`; it is 2 for
+wrong use.
 
-To be run in the repository's root. All that this tool itself says goes to standard error."""
+To be run in the repository's root."""
 import pathlib
 import re
 import subprocess
@@ -17,33 +17,22 @@ import sys
 import time
 
 sys.dont_write_bytecode = True
+from prover import below, listed
 from wrong_programs import count_in, files_of
 
-VERBS = {"check", "staticlib", "ci"}
-PROVED = re.compile(r"rt: (?:target/staticlib/lib)?(\w+)(?: proved \(|\.a has )")
-REFUSED = re.compile(r"rt: must-fail (\S+): refused")
-RAN = re.compile(r"rt: (\w+) ran\b")
-TROUBLE = re.compile(r"NOT PROVED|NOT REFUSED|BAD EDIT|FAILED|: error")
+VERBS = {"check", "program", "ci"}
+PROVED = re.compile(r"rt: (\w+) (?:proved$|is kept: )|== (\w+)$|crate (\w+): modules ")
+REFUSED = re.compile(r"rt: must-fail (\w+/[\w-]+)\.edit: refused")
+RAN = re.compile(r"rt: (\w+) ran, and wrote")
+CHECKED = re.compile(r"checked (\S+), (\d+) of (\d+)$")
+TROUBLE = re.compile(r"NOT PROVED|NOT REFUSED|NOT TRIED|BAD EDIT|FAILED|is not in the layout|error[:[]|: not? prove[nd]|: no proof|is not what its file|ended with status|rt: /")
 LINES_SHOWN = 20
 LONGEST = 300
 
 
-def listed():
-    """Each crate of crates.txt and the crates that it stands on."""
-    lines = [line.split("#")[0] for line in pathlib.Path("crates.txt").read_text().splitlines()]
-    return {name.strip(): below.split() for name, _, below in (line.partition(":") for line in lines) if name.strip()}
-
-
 def wanted_of(names):
     """The named crates and all that they stand on, or every crate where none is named."""
-    crates = listed()
-    todo, wanted = list(names or crates), set()
-    while todo:
-        name = todo.pop()
-        if name in crates and name not in wanted:
-            wanted.add(name)
-            todo += crates[name]
-    return wanted
+    return {it for name in names or listed() if name in listed() for it in [*below(name), name]}
 
 
 class Count:
@@ -59,10 +48,12 @@ class Count:
 
     def told_by(self, line):
         """How far it is now, where a line of `rt` tells of it."""
+        if found := CHECKED.match(line):
+            return f"checked {found[1]}, {found[2]} of {found[3]}"
         for pattern, words, counts, done in self.kinds:
-            found = pattern.match(line)
+            found = pattern.match(line.rstrip("\n"))
             if found:
-                done.add(found.group(1))
+                done.add(next(it for it in found.groups() if it))
                 return words.format(sum(counts.get(name, 0) for name in done), sum(counts.values()))
         return ""
 
@@ -90,23 +81,32 @@ class Teller:
         self.held, self.last = "", time.monotonic()
 
 
+def commands_of(verb, names):
+    """The commands of `rt`, and where each is run. A program is built by a run of it on no input, whose output is let go."""
+    if verb == "ci":
+        return [(["rt", "ci"], ".")]
+    if verb == "check" and not names:
+        return [(["rt", "all", "check"], ".")]
+    return [(["rt", "check" if verb == "check" else "run"], f"crates/{name}") for name in names]
+
+
 def run(verb, names, log):
-    """The status of `rt`. The log begins with its first line: `rt ci` removes target/ before that."""
-    count, teller, file = Count(verb, names), Teller(), None
-    log.unlink(missing_ok=True)
-    with subprocess.Popen(["rt", verb, *names], stdout=subprocess.PIPE, stderr=subprocess.STDOUT, text=True,
-                          errors="replace") as process:
-        for line in process.stdout:
-            if file is None:
-                log.parent.mkdir(exist_ok=True)
-                file = log.open("w", buffering=1)
-            file.write(line)
-            words = count.told_by(line)
-            if words:
-                teller.tell(words)
+    """The status of the first `rt` that fails, or 0."""
+    count, teller = Count(verb, names), Teller()
+    log.parent.mkdir(exist_ok=True)
+    with log.open("w", buffering=1) as file:
+        for command, place in commands_of(verb, names):
+            output = subprocess.STDOUT if verb != "program" else subprocess.PIPE
+            with subprocess.Popen(command, cwd=place, stdin=subprocess.DEVNULL, text=True, errors="replace", stderr=output,
+                                  stdout=subprocess.PIPE if verb != "program" else subprocess.DEVNULL) as process:
+                for line in process.stdout or process.stderr:
+                    file.write(line)
+                    words = count.told_by(line)
+                    if words:
+                        teller.tell(words)
+            if process.returncode != 0:
+                break
     teller.close()
-    if file:
-        file.close()
     return process.returncode
 
 
@@ -121,10 +121,14 @@ def main(arguments):
     if arguments in (["-h"], ["--help"]):
         print(__doc__)
         return 0
-    if not arguments or arguments[0] not in VERBS:
+    if not arguments or arguments[0] not in VERBS or arguments[0] == "program" and not arguments[1:]:
         print(__doc__, file=sys.stderr)
         return 2
     verb, *names = arguments
+    unknown = [name for name in names if name not in listed()]
+    if unknown:
+        print(f"crates.txt has no crate {unknown[0]}; it has {', '.join(sorted(listed()))}", file=sys.stderr)
+        return 2
     log = pathlib.Path(f"target/rt_{verb}.log")
     try:
         print(f"rt {' '.join(arguments)}: what it says goes to {log}", file=sys.stderr, flush=True)

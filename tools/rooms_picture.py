@@ -46,12 +46,13 @@ def listed():
     """Each room with its group and what it stands on, the lowest first. What is not listed and has no folder is the toolchain's."""
     rooms, group = {}, ""
     lines = pathlib.Path("crates.txt").read_text().splitlines()
-    names = {line.split(":")[0] for line in lines if ":" in line and not line.startswith("#")}
+    names = {line.split(":")[0].removesuffix(" staticlib") for line in lines if ":" in line and not line.startswith("#")}
     for line in lines:
         if line.startswith("#"):
             group = line.strip("# ")
         elif line.strip():
             name, _, below = line.partition(":")
+            name = name.removesuffix(" staticlib")
             ours = [other for other in below.split() if other in names or pathlib.Path("crates", other).exists()]
             for other in ours:
                 if other not in rooms:

@@ -1,53 +1,53 @@
-# Makes target/bench/checksum/target/staticlib/libexport.a, which has checksum::checksum_of for C, and beside it the module that it
-# was made of. To be sourced in the repository's root, after tools/shared/toolchain.sh.
+# Makes target/bench/checksum/export.o, which has checksum::checksum_of for C, and beside it the module that it was made of. To be sourced in
+# the repository's root, after tools/shared/toolchain.sh.
 #
-# A static library exports only what is marked extern "C", and the checksum is for Rattle alone. So the export is a crate of
-# its own, made here beside copies of the crates it stands on, and `rt staticlib` proves and compiles it as it does the product.
-exported=target/bench/checksum/target/staticlib/libexport.a
-exported_module=target/bench/checksum/target/staticlib/export.bc
+# A static library exports only what is marked extern "C", and the checksum is for Rattle alone. So the export is a crate of its own, made
+# beside copies of the crates it stands on, and proved and compiled as the product is. It stands outside of the repository, where `rt ci` takes
+# no other crate.
+exported=target/bench/checksum/export.o
+exported_module=target/bench/checksum/export.bc
 
-copy_crate() { # NAME
-    rm -rf "target/bench/checksum/crates/$1"
-    mkdir -p "target/bench/checksum/crates/$1"
+copy_crate() { # NAME TO
+    mkdir -p "$2/crates/$1"
     for part in src specs proofs; do
-        [ ! -d "crates/$1/$part" ] || cp -R "crates/$1/$part" "target/bench/checksum/crates/$1/"
+        [ ! -d "crates/$1/$part" ] || cp -R "crates/$1/$part" "$2/crates/$1/"
     done
-    grep "^$1:" crates.txt >>target/bench/checksum/crates.txt
+    grep "^$1:" crates.txt >>"$2/crates.txt"
 }
 
-write_export() {
-    mkdir -p target/bench/checksum/crates/export/src
-    cat >target/bench/checksum/crates/export/src/lib.rt <<'END'
-ghost use mathlib.Core.Path.{_≡_};
-ghost use Rattle·checksum.specs.Checksum.{checksumOf};
+write_export() { # TO
+    mkdir -p "$1/crates/export/src"
+    cat >"$1/crates/export/src/lib.rt" <<'END'
+#![tactic(auto)]
 
-#[no_mangle]
+ghost use Rattle.std.specs.Prelude.{◌≡◌};
+ghost use Rattle.checksum.specs.Checksum.{checksum_of};
+
+#[unsafe(no_mangle)]
 pub extern "C" fn proved_checksum(bytes: &[u8]) -> u32
-    ensures { λ r. ⌜ r ≡ checksumOf (now (bytes .entry)) ⌝ }
+    ensures { result ≡ checksum_of bytes.now }
 {
     checksum::checksum_of(bytes)
 }
 END
-    echo "export: checksum" >>target/bench/checksum/crates.txt
+    echo "export staticlib: checksum" >>"$1/crates.txt"
 }
 
 # The export, unless it is there and nothing of the crates is newer.
 export_checksum() {
     below=$(sed -n 's/^checksum://p' crates.txt)
-    sources="crates.txt crates/checksum"
-    for crate in $below; do sources="$sources crates/$crate"; done
-    if [ -f "$exported_module" ] && [ -z "$(find $sources -newer "$exported_module" -type f | head -n 1)" ]; then
+    sources=crates.txt
+    for crate in $below checksum; do sources="$sources crates/$crate/src crates/$crate/specs crates/$crate/proofs"; done
+    if [ -f "$exported_module" ] && [ -z "$(find $sources -newer "$exported_module" -type f 2>/dev/null | head -n 1)" ]; then
         return 0
     fi
+    aside=$(mktemp -d) || return 1
+    for crate in $below checksum; do copy_crate "$crate" "$aside"; done
+    write_export "$aside"
     mkdir -p target/bench/checksum
-    : >target/bench/checksum/crates.txt
-    for crate in $below checksum; do copy_crate "$crate"; done
-    write_export
-    make_keeping_kit
-    (RATTLE_HOME=$PWD/target/kit && export RATTLE_HOME && cd target/bench/checksum && rt staticlib export) \
-        >target/bench/checksum/log 2>&1 || {
-        cat target/bench/checksum/log >&2
-        return 1
-    }
-    mv target/kit/module.bc "$exported_module"
+    prover=$PWD/tools/prover.py
+    (cd "$aside" && "$prover" build export) && cp "$aside"/target/staticlib/export.* target/bench/checksum/
+    status=$?
+    rm -rf "$aside"
+    return "$status"
 }

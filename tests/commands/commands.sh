@@ -8,10 +8,21 @@ mkdir "$work/bin"
 cat >"$work/bin/rt" <<'STUB'
 #!/bin/sh
 echo "$@" >>"$CALLED"
+case $1 in
+doc) exec echo "${0%/bin/rt}/START-HERE.md" ;;
+version) exec echo "a kit of the test's own" ;;
+lib) exit 0 ;;
+esac
 cat "$SAYS"
 exit "$STATUS"
 STUB
-chmod +x "$work/bin/rt"
+# A check of the crate as it stands proves it; one with a wrong program in it says what it is told to.
+cat >"$work/bin/rattle" <<'STUB'
+#!/bin/sh
+case $PWD in */crate) sed 's/^/in the copy: /' src/lib.rt && cat "$SAYS" && exit "$STATUS" ;; esac
+echo logic=proved
+STUB
+chmod +x "$work/bin/rt" "$work/bin/rattle"
 export CALLED="$work/called" SAYS=/dev/null STATUS=1
 
 # A COMMAND is wrong use: it ends with a status that is not 0, says WORDS, and calls no prover.
@@ -128,19 +139,22 @@ ends() { # STATUS SAYS WANTED WORDS COMMAND..
 }
 
 root=$(pwd)
-proves='rt: low proved (1 s)\nrt: high proved (2 s)\nrt: high ran, and wrote what its file has\nrt: ok, 2 crates proved\n'
-ends 0 "$proves" 0 'ran 1 of 1 programs' "$root/tools/progress.py" check
-ends 0 'rt: low proved (unchanged)\n' 0 'proved 1 of 1 crates' "$root/tools/progress.py" check low
-ends 0 'rt: must-fail low/good: refused, as it must be (first at x; 3 s)\n' 0 'refused 1 of 8 wrong programs' "$root/tools/progress.py" ci
-ends 0 'rt: must-fail low/pair: refused, as it must be (first at x; 3 s)\n' 0 'refused 2 of 8 wrong programs' "$root/tools/progress.py" ci
-ends 0 'rt: low proved (1 s)\nrt: target/staticlib/libhigh.a has the functions\n' 0 'proved 2 of 2 crates' "$root/tools/progress.py" staticlib high
-ends 1 'rt: low NOT PROVED (exit 1, 2 s)\n' 1 'low NOT PROVED (exit 1, 2 s)' "$root/tools/progress.py" check
-ends 1 'rt: low NOT PROVED (exit 1, 2 s)\n' 1 'target/rt_check.log has all that it said' "$root/tools/progress.py" check
+ran="rt: high ran, and wrote what its file stdout has\nrt: high ran (built by Rattle's own compiler), and wrote what its file stdout has\n"
+ends 0 "rt: low proved\nrt: high proved\n$ran" 0 'ran 1 of 1 programs' "$root/tools/progress.py" ci
+ends 0 '== low\nlogic=proved\n' 0 'proved 1 of 2 crates' "$root/tools/progress.py" check
+ends 0 'checked low::f, 1 of 2\n' 0 'checked low::f, 1 of 2' "$root/tools/progress.py" check low
+ends 0 'rt: low is kept: an earlier run\n' 0 'proved 1 of 2 crates' "$root/tools/progress.py" ci
+ends 0 'rt: must-fail low/good.edit: refused, as it must be: x\n' 0 'refused 1 of 8 wrong programs' "$root/tools/progress.py" ci
+ends 0 'rt: must-fail low/pair.edit: refused, as it must be: x\n' 0 'refused 2 of 8 wrong programs' "$root/tools/progress.py" ci
+ends 1 'rt: low NOT PROVED\n' 1 'low NOT PROVED' "$root/tools/progress.py" ci
+ends 1 'fn low::f: no proof: x\nlogic=not-proved\n' 1 'fn low::f: no proof' "$root/tools/progress.py" check low
+ends 1 'rt: low NOT PROVED\n' 1 'target/rt_ci.log has all that it said' "$root/tools/progress.py" ci
 ends 0 '' 2 'tools/progress.py check [CRATE..]' "$root/tools/progress.py" prove
+ends 0 '' 2 'crates.txt has no crate lower; it has high, low' "$root/tools/progress.py" check lower
 
-ends 1 'src/lib.rt:1:1: error: no proof\nlogic=not-proved\n' 0 'low/good: refused' "$root/tools/try_edit" low/good
-ends 1 'src/lib.rt:1:1: error: no proof\nlogic=not-proved\n' 0 'src/lib.rt:1:1: error: no proof' "$root/tools/try_edit" low/good
-grep -q 'one three' "$repository/target/try/low/crates/low/src/lib.rt" || complain "try_edit does not put the edit into the copy"
+ends 1 './proofs/f/Answers.antt:1:1: error: no proof\nlogic=not-proved\n' 0 'low/good: refused' "$root/tools/try_edit" low/good
+ends 1 './proofs/f/Answers.antt:1:1: error: no proof\nlogic=not-proved\n' 0 './proofs/f/Answers.antt:1:1: error: no proof' "$root/tools/try_edit" low/good
+grep -q 'in the copy: one three' "$repository/target/try/low/good.log" || complain "try_edit does not put the edit into the copy"
 grep -q 'one two' "$repository/crates/low/src/lib.rt" || complain "try_edit changes the crate itself"
 ends 0 'logic=proved\n' 1 'low/good: ACCEPTED' "$root/tools/try_edit" low/good
 ends 1 'src/lib.rt:1:1: error: a word too many\n' 2 'neither proved nor refused, status 1' "$root/tools/try_edit" low/good
@@ -154,10 +168,11 @@ ends 0 '' 2 'crates.txt has no crate lower; it has high, low' "$root/tools/try_e
 ends 0 '' 2 "'low' is not CRATE/NAME" "$root/tools/try_edit" low
 
 # Two wrong programs of one file: tried together each must have an error of its own, and one of them can be tried alone.
-at_f='x/crates/low/proofs/f/Proof.antt:1:1: error: no proof\n'
-at_g='x/crates/low/proofs/g/Proof.antt:1:1: error: no proof\n'
+at_f='fn low::f: no proof: expected answers; `search` did not prove `returns`\n'
+at_g='./proofs/g/Answers.antt:1:1: error: no proof\n'
 ends 1 "$at_f${at_g}logic=not-proved\n" 0 'low/right: refused, as it must be' "$root/tools/try_edit" low/pair
 ends 1 "${at_f}logic=not-proved\n" 1 'low/right: NOT SHOWN TO BE REFUSED' "$root/tools/try_edit" low/pair
 ends 1 "${at_f}logic=not-proved\n" 0 'low/left: refused, as it must be' "$root/tools/try_edit" low/left
-grep -q five "$repository/target/try/low/crates/low/src/lib.rt" || complain "try_edit puts more into the copy than the one that it is to try"
+grep -q 'in the copy:.*five' "$repository/target/try/low/left.log" || complain "try_edit puts more into the copy than the one that it is to try"
+ends 1 "${at_g}logic=not-proved\n" 1 'low/left: NOT SHOWN TO BE REFUSED' "$root/tools/try_edit" low/left
 exit "$bad"

@@ -4,14 +4,13 @@ set -u
 . tests/shared/complaints.sh
 work=$(mktemp -d) || exit 1
 trap 'rm -rf "$work"' EXIT
-tools/is_current.sh target/bin/mend || rt check mend >"$work/log" 2>&1 || {
+tools/is_current.sh crates/mend/out/mend || tools/progress.py program mend >"$work/log" 2>&1 || {
     cat "$work/log"
     exit 1
 }
-# The program is built, so its `rt check` is left out: within the gate it would be proved once more, since `rt ci` notes a program as
-# proved only when it has run it, at its end.
+# The program is built, so its `rt run` is left out: it would be proved once more, since `rt run` takes nothing that `rt ci` has proved.
 mkdir "$work/bin"
-printf '#!/bin/sh\n[ "$1" = check ] || exec "%s" "$@"\n' "$(command -v rt)" >"$work/bin/rt"
+printf '#!/bin/sh\n[ "$1" = run ] || exec "%s" "$@"\n' "$(command -v rt)" >"$work/bin/rt"
 chmod +x "$work/bin/rt"
 
 # IMAGE is mended to OUT: it stays as it was, and SAID is printed.

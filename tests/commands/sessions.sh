@@ -18,7 +18,7 @@ prints() { # WHAT FILE EXPECTED
 }
 
 for runner in runner runner_am13e230x; do
-    tools/is_current.sh "target/bin/$runner" || rt check "$runner" >"$work/log" 2>&1 || {
+    tools/is_current.sh "crates/$runner/out/$runner" || tools/progress.py program "$runner" >"$work/log" 2>&1 || {
         cat "$work/log"
         exit 1
     }
@@ -54,11 +54,11 @@ cmp tests/sessions/am13e230x/larger_session.expected crates/runner_am13e230x/std
     tools/sessions/run_script.sh /dev/stdin >"$work/printed"
 cmp "$work/printed" tests/sessions/commands/example.expected || complain "a script in pieces: not what is expected"
 
-# The command plays a text whose name has a space, and prints nothing else on standard output. The runner is built, so its `rt check` is left
-# out: within the gate it would be proved once more, since `rt ci` notes a program as proved only when it has run it, at its end.
+# The command plays a text whose name has a space, and prints nothing else on standard output. The runner is built, so its `rt run` is left
+# out: it would be proved once more, since `rt run` takes nothing that `rt ci` has proved.
 cp tests/sessions/commands/example.txt "$work/two words.txt"
 mkdir "$work/bin"
-printf '#!/bin/sh\n[ "$1" = check ] || exec "%s" "$@"\n' "$(command -v rt)" >"$work/bin/rt"
+printf '#!/bin/sh\n[ "$1" = run ] || exec "%s" "$@"\n' "$(command -v rt)" >"$work/bin/rt"
 chmod +x "$work/bin/rt"
 PATH="$work/bin:$PATH" make -s run SCRIPT="$work/two words.txt" >"$work/printed" 2>"$work/log" || complain "make run: status $?: $(cat "$work/log")"
 cmp "$work/printed" tests/sessions/commands/example.expected || complain "make run of a name with a space: not what is expected"

@@ -19,7 +19,8 @@ DEMANDS = pathlib.Path("docs/DEMANDS.md")
 STATEMENT = pathlib.Path("docs/STATEMENT.md")
 DECISIONS = pathlib.Path("docs/DECISIONS.md")
 DOCUMENTS = [path for path in sorted(pathlib.Path("docs").glob("*.md")) if path != DEMANDS] + [pathlib.Path("README.md")]
-CODE = sorted([*pathlib.Path("crates").rglob("*.antt"), *pathlib.Path("crates").rglob("*.rt")])
+# the prover leaves copies of definitions in crates/*/out
+CODE = sorted(path for part in ("src/**/*.rt", "specs/**/*.antt", "proofs/**/*.antt") for path in pathlib.Path("crates").glob(f"*/{part}"))
 
 QUOTED = re.compile(r"^(?:\d\. )?> (.*)$", re.M)
 HEADED = "the customer's words"

@@ -11,7 +11,8 @@ import sys
 from public_functions import libraries, public_functions
 from wrong_programs import files_of, programs_of
 
-SIGNED = sorted(pathlib.Path("docs").glob("*.md")) + [pathlib.Path("README.md")]
+PAST = pathlib.Path("docs/PORT.md")  # tells what had which name before, and is signed by nobody
+SIGNED = [path for path in sorted(pathlib.Path("docs").glob("*.md")) if path != PAST] + [pathlib.Path("README.md")]
 PROMISES = pathlib.Path("docs/PROMISES.md")
 
 # How a document cites: names, and beside them the files that have them or the one crate, record, struct or enum.
@@ -31,20 +32,29 @@ ITEM = re.compile(r'^(?:pub(?:\(crate\))? )?(?:extern "C" )?(?:fn|const|mod) (\w
 OWNER = re.compile(r"^(?:pub(?:\(crate\))? )?(?:record|data|struct|enum|impl) (\w+).*\n((?:(?: .*)?\n)*)", re.M)
 PART = re.compile(r"^(?:  |    )(?:pub )?(?:fn |const )?(\w[\w'-]*)(?: ?:|,|\(| \{)", re.M)
 PARAMETER = re.compile(r"(\w+): ")
-FROM_LIBRARY = re.compile(r"^(?:ghost )?use (?:Prim|mathlib|lib|borrow\.Author)\.[^{\n]*\{([^}]*)\}", re.M)
+FROM_LIBRARY = re.compile(r"^(?:ghost )?use (?:Prim|mathlib|lib|borrow|Rattle\.(?:std|core))\.[^{\n]*\{([^}]*)\}", re.M)
 
 # What may be cited and is defined nowhere here.
 ORDINARY = {
     # words of the language, and steps of a proof
-    "requires", "if", "else", "loop", "where", "unfolding", "unfoldable", "cc", "omega", "rw",
+    "requires", "if", "else", "loop", "while", "match", "use", "where", "unfolding", "unfoldable", "cc", "omega", "rw", "search",
     # the toolchain's command, functions of C and zlib, and a word of a script's text
     "rt", "crc32", "memcmp", "memcpy", "memset", "raw",
 }
 
 
+def below(place):
+    """All files below a place, but for what the prover leaves beside a crate: copies of definitions, as they were when it was last proved."""
+    for path in sorted(place.iterdir()):
+        if not path.is_dir():
+            yield path
+        elif path.name != "out":
+            yield from below(path)
+
+
 def sources(place):
     """The files that define something: the one at a place, or all those below it."""
-    paths = [place] if place.is_file() else sorted(place.rglob("*"))
+    paths = [place] if place.is_file() else below(place)
     return [path for path in paths if path.suffix in (".rt", ".antt")]
 
 
@@ -98,7 +108,7 @@ def cited(text):
 
 def is_there(file):
     """Whether a file is there: by its whole path, or by the end of it within a crate."""
-    return pathlib.Path(file).exists() or any(pathlib.Path("crates").glob(f"*/**/{file}"))
+    return pathlib.Path(file).exists() or any(str(path).endswith(f"/{file}") for path in below(pathlib.Path("crates")))
 
 
 def fault_in(name, known):

@@ -5,7 +5,8 @@ set -u
 root=$(pwd)
 work=$(mktemp -d) || exit 1
 trap 'rm -rf "$work"' EXIT
-mkdir -p "$work/crates/low/src" "$work/crates/low/must-fail" "$work/target/must-fail/low/both"
+mkdir -p "$work/crates/low/src" "$work/crates/low/must-fail" "$work/said/low" "$work/target"
+echo 'low:' >"$work/crates.txt"
 cat >"$work/crates/low/src/lib.rt" <<'CODE'
 fn callee() -> u8 {
     1
@@ -28,28 +29,56 @@ new: + 4
 EDIT
 fact='error: `x`: the goal does not follow'
 masked='error: `x`: `close` was not admitted, so this cannot be checked'
+open_fact='no proof: expected answers in ./proofs/x/Answers.antt; `search` did not prove `returns`'
+echo='no proof: it calls `low::callee`, which is not proved'
 
 # In the small case, with a log of these LINES, the tool ends with STATUS and says WORDS.
 says() { # STATUS WORDS LINES..
     wanted=$1 words=$2
     shift 2
-    printf '%s\n' "$@" logic=not-proved >"$work/target/must-fail/low/both/.log"
-    said=$(cd "$work" && python3 -B "$root/tools/refusals.py")
+    printf '%s\n' "$@" logic=not-proved >"$work/said/low/both.log"
+    told --said said
+}
+
+# The same with LINES that `rt ci` has said of it.
+says_of_gate() { # STATUS WORDS LINES..
+    wanted=$1 words=$2
+    shift 2
+    printf '%s\n' "$@" >"$work/target/rt_ci.log"
+    told
+}
+
+told() { # ARGUMENTS..
+    said=$(cd "$work" && XDG_CACHE_HOME=$work PATH="$work/bin:$PATH" python3 -B "$root/tools/refusals.py" "$@" 2>&1)
     status=$?
     [ "$status" -eq "$wanted" ] || complain "$*: status $status"
     case $said in *"$words"*) ;; *) complain "$*: does not say '$words', but: $said" ;; esac
 }
 
-at_callee='/x/proofs/callee/Proof.antt:1:2:' at_caller='/x/proofs/caller/Proof.antt:3:4:'
+at_callee='./proofs/callee/Answers.antt:1:2:' at_caller='./proofs/caller/Answers.antt:3:4:'
 says 0 '' "$at_callee $fact" "$at_caller $fact"
-says 0 '' "$at_caller $masked" "$at_caller $fact" 'fn low::callee: no proof: expected `x`; `search` does not close `returns`'
+says 0 '' "$at_caller $masked" "$at_caller $fact" "fn low::callee: $open_fact"
+says 0 '' "fn low::callee: $open_fact" "fn low::caller: $open_fact; it calls \`low::callee\`, which is not proved"
 says 1 'two_more: no error of its own in the proof of caller' "$at_callee $fact" "$at_caller $masked"
-says 1 'one_less: no error of its own in the proof of callee' "$at_caller $fact" '/x/proofs/Laws.antt:1:2: error: `x`: no'
-says 1 'two_more: no error of its own' "$at_callee $fact" 'fn low::caller: not proved; it calls `low::callee`, which is not proved'
+says 1 'one_less: no error of its own in the proof of callee' "$at_caller $fact" './proofs/Laws.antt:1:2: error: `x`: no'
+says 1 'two_more: no error of its own' "$at_callee $fact" "fn low::caller: $echo"
+says 1 'two_more: no error of its own' "$at_callee $fact" 'fn low::caller: not proved'
 says 1 'one_less: refused, and not at a fact' "$at_callee error: \`x\` has no field \`y\`" "$at_callee $fact" "$at_caller $fact"
 says 1 'one_less: refused, and not at a fact' "$at_callee error: \`x\`: of a record" '  has no field `y`' "$at_callee $fact" "$at_caller $fact"
-rm -r "$work/target/must-fail/low/both"
-(cd "$work" && python3 -B "$root/tools/refusals.py") | grep -q 'no log of its refusal' || complain "a log that is not there is not missed"
+rm "$work/said/low/both.log"
+wanted=1 words='no log of its refusal'
+told --said said
+
+# What `rt ci` has met first shows one wrong program of a file, and no second one: such a file is tried. Here the prover is one that fails.
+mkdir "$work/bin"
+printf '#!/bin/sh\nexit 1\n' >"$work/bin/rt"
+chmod +x "$work/bin/rt"
+first='rt: must-fail low/both.edit: refused, as it must be'
+says_of_gate 1 '' "$first: note: src/lib.rt:5:1: it is not proved that what the function ensures holds when it returns"
+sed -i '/^$/,$d' "$work/crates/low/must-fail/both.edit"
+says_of_gate 0 '' "$first: note: src/lib.rt:1:1: it is not proved that what the function ensures holds when it returns"
+says_of_gate 1 '' "$first: note: src/lib.rt:5:1: it is not proved that what the function ensures holds when it returns"
+says_of_gate 1 '' "$first (only because a proof file names what the edit took away, so this says little): $at_callee $fact"
 
 python3 -B tools/refusals.py || bad=1
 exit "$bad"

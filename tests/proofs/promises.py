@@ -3,14 +3,15 @@
 docs/PROMISES.md names the law of each function ("One answer: `law`"), and what its contract speaks of ("Equal to `this`"). What
 the law must say is written from the head of the function by these rules, and compared with the law in LAWS:
 
-- The parameters stand in their order. A number is a ℕ, a `bool` a Bool, a slice of bytes a List ℕ; other types keep their names,
-  and `main_size` becomes `mainSize`.
+- The parameters stand in their order, under their names. A number is a ℕ, a `bool` a Bool, a slice of bytes a List ℕ; other types keep their names.
 - An answer is what is returned, then what is left of each parameter that is lent to be written, in the order of the parameters.
-  Where it has several parts it is `r`, its type is written out, and its parts are `(r .0)`, `(r .1)` and so on. Else it is `r`
+  Where it has several parts it is `r`, its type is written out, and its parts are `r.0`, `r.1` and so on. Else it is `r`
   where it is returned, and `x'` where it is left of `x`.
-- The promise is the contract's. `now (x .entry)` becomes `x`, `now (x .exit)` the answer's part for `x`, and `r` the part for what
-  is returned. `now r`, the bytes of a slice that is returned, becomes `r`.
-- A word stands for what its file fetches under that name: both files must fetch it from the same place."""
+- The promise is the contract's. `x.now` and `x.old` become `x`, `x.new` the answer's part for `x`, and `result` the part for what is
+  returned. `result.now`, the bytes of a slice that is returned, becomes `r`.
+- A word stands for what its file fetches under that name: both files must fetch it from the same place.
+
+What a stream gives no promise can say, so a function that reads one has no law (STREAMS): docs/PROMISES.md says what it promises."""
 import pathlib
 import re
 import sys
@@ -22,8 +23,9 @@ from public_functions import libraries, public_functions
 LAWS = pathlib.Path("crates/claims/proofs/Answers/Promises.antt")
 LAW = re.compile(r"^pub (\S+) : (.*(?:\n .*)*)", re.M)
 STATEMENT = re.compile(r"(?:((?:\([^():]+ : [^()]+\) )+)→ )?OneAnswer (?:\{A = ([^}]*)\} )?\(λ (\S+)\. (.*)\)")
-HEAD = re.compile(r"fn \w+(?:<'a>)?\(([^)]*)\)(?: -> (\S+(?: \S+)*))?\n *ensures \{ λ [r_]\. ⌜ (.*) ⌝ \}")
+HEAD = re.compile(r"fn \w+(?:<'a>)?\(([^)]*)\)(?: -> (\S+(?: \S+)*))?\n *ensures(?: \w+)? \{ (.*) \}")
 USE = re.compile(r"^(?:ghost )?use ([^\s{]+?)(?:\.\{([^}]*)\}| as (\w+));?$", re.M)
+STREAMS = [("program_io", "read_full")]
 TYPES = {"u8": "ℕ", "u16": "ℕ", "u32": "ℕ", "u64": "ℕ", "usize": "ℕ", "bool": "Bool", "[u8]": "List ℕ"}
 
 
@@ -33,11 +35,6 @@ class Said(typing.NamedTuple):
     answer_type: typing.Optional[str]
     answer: str
     promise: str
-
-
-def name_in_laws(name):
-    """The name that stands in the laws for one of the code."""
-    return re.sub(r"_(\w)", lambda found: found.group(1).upper(), name)
 
 
 def type_in_laws(kind):
@@ -50,9 +47,9 @@ def with_places(promise, text, parameters):
     """A promise in which each word that the text of its file fetches has the place that it is fetched from."""
     places = {}
     for module, names, alias in USE.findall(text):
-        module = module.replace("·specs", "")
+        module = module.replace("Rattle.std.proofs.Common", "Rattle.std.specs.Prelude")
         for name in re.findall(r"[^\s,]+", names):
-            places[name.strip("_")] = f"{module}.{name}"
+            places[name.strip("◌")] = f"{module}.{name}"
         if alias:
             places[alias] = module
     for name, _ in parameters:
@@ -62,23 +59,22 @@ def with_places(promise, text, parameters):
 
 def parts_of_answer(parameters, returned):
     """How a contract speaks of each part of the answer, and the part's type."""
-    parts = [("r", returned)] if returned else []
-    return parts + [(f"now ({name} .exit)", kind) for name, kind in parameters if "mut " in kind]
+    parts = [("result", returned)] if returned else []
+    return parts + [(f"{name}.new", kind) for name, kind in parameters if "mut " in kind]
 
 
 def names_in_law(parts):
     """How a law speaks of each part of the answer."""
     if len(parts) > 1:
-        return [f"(r .{place})" for place in range(len(parts))]
-    return [re.sub(r"now \((\w+) \.exit\)", r"\1'", spoken) for spoken, _ in parts]
+        return [f"r.{place}" for place in range(len(parts))]
+    return ["r" if spoken == "result" else re.sub(r"\.new$", "'", spoken) for spoken, _ in parts]
 
 
 def in_words_of_law(contract, parts, names):
     """A contract's promise, rewritten for a law that speaks of the answer's parts by these names."""
-    text = re.sub(r"«(\w+)»", lambda found: name_in_laws(found.group(1)), contract)
-    text = re.sub(r"\bnow r\b", "r", text)
-    text = re.sub(r"\((now \(\w+ \.\w+\))\)", r"\1", text)
-    text = re.sub(r"now \((\w+) \.entry\)", r"\1", text)
+    text = re.sub(r"«(\w+)»", r"\1", contract)
+    text = re.sub(r"\bresult\.now\b", "result", text)
+    text = re.sub(r"\b(\w+)\.(?:now|old)\b", r"\1", text)
     for (spoken, _), name in zip(parts, names):
         text = re.sub(rf"(?<!\w){re.escape(spoken)}(?!\w)", name, text)
     return text
@@ -87,7 +83,7 @@ def in_words_of_law(contract, parts, names):
 def said_by_contract(head, text):
     """What the law of a function must say. The text is that of the function's file."""
     handed, returned, contract = HEAD.search(head).groups()
-    handed = [(name_in_laws(name), kind) for name, kind in re.findall(r"(\w+): ([^,\n]+)", handed)]
+    handed = re.findall(r"(\w+): ([^,\n]+)", handed)
     parameters = [(name, type_in_laws(kind)) for name, kind in handed]
     parts = parts_of_answer(handed, returned)
     names = names_in_law(parts)
@@ -175,6 +171,8 @@ def main():
     named = {law_named_in(paragraph) for paragraph in promises.values()}
     wrong = []
     for (crate, name), (head, text) in heads.items():
+        if (crate, name) in STREAMS:
+            continue
         wrong += [f"{crate}::{name}: {fault}" for fault in wrong_with(head, text, promises.get((crate, name), ""), laws)]
     wrong += [f"{PROMISES}: {crate} has no public function {name}" for crate, name in promises if (crate, name) not in heads]
     wrong += [f"{LAWS}: {law} is the law of no function" for law in laws if law not in named]

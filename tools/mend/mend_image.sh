@@ -1,5 +1,5 @@
 #!/bin/sh
-# Mends a settings image with the program that `rt check mend` built: prints what it says, and stores the mended image as bytes.
+# Mends a settings image with the program that `make mend` builds: prints what it says, and stores the mended image as bytes.
 #
 #     tools/mend/mend_image.sh IMAGE OUT
 #
@@ -14,7 +14,7 @@ case ${1:-} in -h | --help) exec sed -n '2,/^[^#]/s/^# \{0,1\}//p' "$0" ;; esac
 root=$(cd "$(dirname "$0")/../.." && pwd)
 . "$root/tools/shared/program.sh"
 "$root/tools/mend/look_at_files.sh" "$1" "$2"
-[ -f "$root/target/bin/mend" ] || {
+[ -f "$root/crates/mend/out/mend" ] || {
     echo "the program is not built; 'make mend' builds it" >&2
     exit 2
 }

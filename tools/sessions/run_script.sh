@@ -1,5 +1,5 @@
 #!/bin/sh
-# Plays a session with a runner that `rt check` has built, and prints what the board answers.
+# Plays a session with a runner that is built, and prints what the board answers.
 #
 #     tools/sessions/run_script.sh FILE [PART]
 #
@@ -19,7 +19,7 @@ am13e230x) runner=runner_am13e230x ;;
 esac
 root=$(cd "$(dirname "$0")/../.." && pwd)
 . "$root/tools/shared/program.sh"
-[ -f "$root/target/bin/$runner" ] || {
+[ -f "$root/crates/$runner/out/$runner" ] || {
     echo "$runner is not built; 'make run PART=${2-mspm0}' builds it" >&2
     exit 2
 }

@@ -25,9 +25,8 @@ find_compiler() {
 
 # Proves and compiles one crate of the boundary: target/staticlib/CRATE.o, and beside it CRATE.bc, the module that it was made of.
 compile_crate() { # CRATE
-    RATTLE_HOME=$PWD/target/kit tools/progress.py staticlib "$1" || return 1
-    mv target/kit/module.bc "target/staticlib/$1.bc"
-    (cd target/staticlib && $ar x "lib$1.a")
+    echo "proving and compiling $1; what the prover says goes to target/staticlib/$1.log" >&2
+    tools/prover.py build "$1"
 }
 
 is_library_current() {
@@ -41,7 +40,7 @@ is_library_current() {
 build_library() {
     is_library_current && return 0
     mkdir -p target
-    find_compiler && make_keeping_kit || return 1
+    find_compiler || return 1
     objects=
     for crate in $boundary; do
         compile_crate "$crate" || return 1

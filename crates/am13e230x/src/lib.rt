@@ -1,4 +1,6 @@
 // The loader of the AM13E230x: a session of one of its boards, and each call of it. This part has no SRAM window: an empty one is lent.
+#![tactic(auto)]
+
 ghost use Rattle.std.specs.Prelude.{◌≡◌, []};
 ghost use Rattle.parts.specs.Parts.{am13e230x};
 ghost use Rattle.flash.specs.Memory.{memory};

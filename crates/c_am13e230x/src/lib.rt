@@ -1,5 +1,7 @@
 // What C calls of the AM13E230x's loader; include/bhorelmu.h has the names. Each is the function of `c_records` on this part's numbers, with an
 // empty window, for the part has none.
+#![tactic(auto)]
+
 ghost use Rattle.std.specs.Prelude.{◌≡◌, []};
 ghost use Rattle.parts.specs.Parts.{am13e230x};
 ghost use Rattle.flash.specs.Memory.{memory};

@@ -1,4 +1,6 @@
 // What C calls of the MSPM0's loader; include/bhorelmu.h has the names. Each is the function of `c_records` on this part's numbers.
+#![tactic(auto)]
+
 ghost use Rattle.std.specs.Prelude.{◌≡◌};
 ghost use Rattle.parts.specs.Parts.{mspm0};
 ghost use Rattle.flash.specs.Memory.{memory};

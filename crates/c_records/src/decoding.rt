@@ -9,6 +9,7 @@ use parts::Part;
 use session::Session;
 use session_state::{Phase, Standing};
 
+#[tactic(auto, unfolding(crate::specs::Records::phase_in, octets::specs::Choice::pick))]
 fn phase_in(code: u8, unlocked: bool, sleep: u32) -> Phase
     ensures { result ≡ phase_in code unlocked sleep }
 {
@@ -21,6 +22,7 @@ fn phase_in(code: u8, unlocked: bool, sleep: u32) -> Phase
     }
 }
 
+#[tactic(auto, unfolding(crate::specs::Records::standing_in))]
 fn standing_in(area: &[u8]) -> Standing
     ensures { result ≡ standing_in area.now }
 {
@@ -37,6 +39,7 @@ fn standing_in(area: &[u8]) -> Standing
 }
 
 // The session that an area says.
+#[tactic(auto, unfolding(crate::specs::Records::session_in))]
 pub(crate) fn session_in(area: &[u8]) -> Session
     ensures { result ≡ session_in area.now }
 {
@@ -49,6 +52,7 @@ pub(crate) fn session_in(area: &[u8]) -> Session
 }
 
 // Lock and sleep are there in the command phase alone.
+#[tactic(auto, unfolding(crate::specs::Records::phase_fits, octets::specs::Choice::pick))]
 fn phase_fits(code: u8, lock: u8, sleep: u32) -> bool
     ensures { result ≡ phase_fits code lock sleep }
 {
@@ -65,6 +69,7 @@ fn phase_fits(code: u8, lock: u8, sleep: u32) -> bool
 }
 
 // How many bytes a record has on this part.
+#[tactic(auto, unfolding(crate::specs::Records::record_size, octets::specs::Choice::pick))]
 pub(crate) fn record_size(part: Part) -> usize
     ensures { result ≡ record_size part }
 {
@@ -75,6 +80,7 @@ pub(crate) fn record_size(part: Part) -> usize
 }
 
 // Whether an area is a record's on this part, as far as only bytes can break it.
+#[tactic(auto, unfolding(crate::specs::Records::is_record_area, octets::specs::Choice::pick))]
 pub(crate) fn is_record_area(part: Part, area: &[u8]) -> bool
     ensures { result ≡ is_record_area part area.now }
 {

@@ -22,6 +22,7 @@ fn phase_code(phase: Phase) -> u8
     }
 }
 
+#[tactic(auto, unfolding(octets::specs::Choice::pick))]
 fn lock_code(phase: Phase) -> u8
     ensures { result ≡ lock_code phase }
 {
@@ -52,6 +53,7 @@ fn sleep_of(phase: Phase) -> u32
 }
 
 // Stores what a session counts behind the first four bytes of its record.
+#[tactic(auto, using(crate::proofs::RecordLaws::counters_joined))]
 fn put_counters(area: &mut [u8], sleep: u32, idle: u32, tries: u32)
     ensures { area.new ≡ sets area.old 4 (counters_bytes sleep idle tries) }
 {
@@ -76,6 +78,7 @@ pub(crate) fn put_standing(area: &mut [u8], standing: Standing)
 }
 
 // Stores a session into an area, of either record's size: what has no room there is not stored.
+#[tactic(auto, using(crate::proofs::RecordLaws::record_joined, settings::proofs::BodyLaws::length_kept))]
 pub(crate) fn put_record(area: &mut [u8], session: Session)
     requires { length area.old ≤ 118 }
     ensures { area.new ≡ take (length area.old) (record_bytes session) }

@@ -17,6 +17,7 @@ pub(crate) fn number_of(form: Form) -> u32
 }
 
 // Stores the fields of some contents into an area of their size.
+#[tactic(auto, using(crate::proofs::FieldsLaws::fields_joined, settings::proofs::BodyLaws::length_bodies))]
 pub(crate) fn put_contents(area: &mut [u8], contents: Contents)
     requires { length area.old ≡ 140 }
     ensures { area.new ≡ fields_of contents }
@@ -29,6 +30,7 @@ pub(crate) fn put_contents(area: &mut [u8], contents: Contents)
 }
 
 // Whether a number names a form, and which.
+#[tactic(auto, unfolding(crate::specs::FieldsArea::is_form_number, octets::specs::Choice::pick))]
 pub(crate) fn is_form_number(number: u16) -> bool
     ensures { result ≡ is_form_number number }
 {
@@ -38,6 +40,7 @@ pub(crate) fn is_form_number(number: u16) -> bool
     number == 2
 }
 
+#[tactic(auto, unfolding(crate::specs::FieldsArea::form_numbered, octets::specs::Choice::pick))]
 fn form_numbered(number: u16) -> Form
     ensures { result ≡ form_numbered number }
 {

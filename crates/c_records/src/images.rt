@@ -12,6 +12,7 @@ use crate::{
 use settings::Reading;
 
 // Stores the fields of contents that were read.
+#[tactic(auto, unfolding(crate::specs::Stored::stored_by, octets::specs::Choice::pick))]
 fn store_fields(reading: Reading, area: &mut [u8]) -> u64
     ensures { stored result area.new ≡ stored_by (read_numbered reading.answer) fields_area_size (fields_of reading.contents) area.old }
 {
@@ -35,6 +36,7 @@ pub fn read_image(image: &[u8], fields: &mut [u8]) -> u64
 }
 
 // Writes the settings image of some fields.
+#[tactic(auto, unfolding(crate::specs::SettingsFromC::write_from_c, octets::specs::Choice::pick))]
 pub fn write_image(fields: &[u8], image: &mut [u8]) -> u64
     ensures { stored result image.new ≡ write_from_c fields.now image.old }
 {

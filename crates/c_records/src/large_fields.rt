@@ -8,6 +8,7 @@ use settings::Form;
 use settings_large::LargeContents;
 
 // Stores the fields of some contents into an area of their size.
+#[tactic(auto, using(crate::proofs::FieldsLaws::large_joined, settings::proofs::BodyLaws::length_kept))]
 pub(crate) fn put_contents(area: &mut [u8], contents: LargeContents)
     requires { length area.old ≡ 164 }
     ensures { area.new ≡ large_fields_of contents }

@@ -14,6 +14,7 @@ use settings_large::LargeReading;
 const FORM: u16 = 2;
 
 // Stores the fields of contents that were read.
+#[tactic(auto, unfolding(crate::specs::Stored::stored_by, octets::specs::Choice::pick))]
 fn store_fields(reading: LargeReading, area: &mut [u8]) -> u64
     ensures { stored result area.new ≡ stored_by (read_numbered reading.answer) large_area_size (large_fields_of reading.contents) area.old }
 {
@@ -37,6 +38,7 @@ pub fn read_large_image(image: &[u8], fields: &mut [u8]) -> u64
 }
 
 // Writes the settings image of some fields.
+#[tactic(auto, unfolding(crate::specs::LargeFromC::write_large_from_c, octets::specs::Choice::pick))]
 pub fn write_large_image(fields: &[u8], image: &mut [u8]) -> u64
     ensures { stored result image.new ≡ write_large_from_c fields.now image.old }
 {

@@ -1,5 +1,7 @@
 // What C calls, for any part: functions on numbers and byte areas. docs/RECORD.md has the layout of the areas; the names that C
 // calls stand in a crate for each part.
+#![tactic(auto)]
+
 mod decoding;
 mod encoding;
 mod fields;

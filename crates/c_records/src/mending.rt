@@ -11,6 +11,7 @@ use crate::{COUNTS_SIZE, FORM_UNKNOWN, RECORD_NOT_VALID, SETTINGS_SIZE_WRONG};
 use settings_mend::{Changes, Examined, MendAnswer};
 
 // What is answered where the counts have no place: the image's own refusal, if there is one.
+#[tactic(auto, unfolding(octets::specs::Choice::pick))]
 fn of_examined(examined: Examined) -> u64
     ensures { result ≡ pick (not (eqb (examined_number examined) 0)) (refusal (examined_number examined)) (refusal 10) }
 {
@@ -22,6 +23,7 @@ fn of_examined(examined: Examined) -> u64
     }
 }
 
+#[tactic(auto, using(crate::proofs::CountsLaws::counts_joined))]
 fn counts_of(changes: Changes) -> [u8; 8]
     ensures { result ≡ counts_of changes }
 {
@@ -34,6 +36,7 @@ fn counts_of(changes: Changes) -> [u8; 8]
 }
 
 // Stores the counts of an image that was not refused.
+#[tactic(auto, using(octets::proofs::StoreLaws::stored_whole, crate::proofs::CountsLaws::length_counts), unfolding(octets::specs::Choice::pick))]
 fn store_counts(answer: MendAnswer, area: &mut [u8]) -> u64
     requires { length area.old ≡ 8 }
     ensures { stored result area.new ≡ pick (not (eqb (mend_told answer).number 0)) (stored (refusal (mend_told answer).number) area.old) (stored 0 (counts_of (mend_told answer).changes)) }
@@ -50,6 +53,7 @@ fn store_counts(answer: MendAnswer, area: &mut [u8]) -> u64
 }
 
 // Mends a settings image where it lies, and stores how many bytes were changed.
+#[tactic(auto, using(crate::proofs::CountsLaws::told_alone, crate::proofs::CountsLaws::stored_beside))]
 pub fn mend_image(image: &mut [u8], counts: &mut [u8]) -> u64
     ensures { mend_stored result image.new counts.new ≡ mend_from_c image.old counts.old }
 {

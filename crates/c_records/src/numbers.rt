@@ -13,6 +13,7 @@ const ENTRY_DIFFERS: u64 = 6 * REFUSAL_UNIT;
 const FILLER_DIFFERS: u64 = 7 * REFUSAL_UNIT;
 
 // What comes back where an image is refused; an entry goes below its refusal.
+#[tactic(auto, unfolding(octets::specs::Choice::pick))]
 pub fn of_refusal(refusal: Refusal) -> u64
     ensures { result ≡ refusal_of (refusal_numbered refusal) }
 {

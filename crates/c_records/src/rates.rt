@@ -5,6 +5,7 @@ ghost use Rattle.c_records.specs.Boundary.{rate_from_c};
 use parts::Part;
 
 // The rate that has this id, in bits a second, or 0 where none of this part has.
+#[tactic(auto, using(session_state::proofs::RateLaws::past_the_table))]
 pub fn rate_by_id(part: Part, id: u32) -> u32
     ensures { result ≡ rate_from_c part id }
 {

@@ -7,6 +7,7 @@ use crate::{BURN_UNIT, FUSE_SET, MAIN_SIZE_WRONG, WINDOW_SIZE_WRONG, numbers};
 use session::StartAnswer;
 
 // What start answers.
+#[tactic(auto, unfolding(octets::specs::Choice::pick))]
 pub(crate) fn of_start(answer: StartAnswer) -> u64
     ensures { result ≡ refusal_of (start_numbered answer) }
 {
@@ -20,6 +21,7 @@ pub(crate) fn of_start(answer: StartAnswer) -> u64
 }
 
 // A call that is not refused: the size of its reply, and whether the board is to burn its fuse.
+#[tactic(auto, unfolding(octets::specs::Choice::pick))]
 pub(crate) fn done(burn: bool, size: usize) -> u64
     requires { size < 4294967296 }
     ensures { result ≡ one_number 0 burn size }

@@ -16,6 +16,7 @@ use parts::Part;
 use session::{CallAnswer, Called, Started};
 
 // Stores the record of a session that was started, of a size.
+#[tactic(auto, unfolding(crate::specs::Stored::stored_by, octets::specs::Choice::pick))]
 fn store_record(size: usize, started: Started, area: &mut [u8]) -> u64
     requires { size ≤ 118 }
     ensures { stored result area.new ≡ stored_by (start_numbered started.answer) size (take size (record_bytes started.session)) area.old }
@@ -33,6 +34,7 @@ fn store_record(size: usize, started: Started, area: &mut [u8]) -> u64
 }
 
 // Starts a session on a board of this part, and stores its record. Any fuse but 0 is set.
+#[tactic(auto, using(crate::proofs::RecordLaws::record_sizes))]
 pub fn start_record(
     part: Part,
     fuse: u32,
@@ -51,6 +53,7 @@ pub fn start_record(
 }
 
 // Stores the record of a call that was not refused, and makes one number of its answer. Only how the session stands can have changed.
+#[tactic(auto, unfolding(crate::specs::Boundary::stored_after, octets::specs::Choice::pick))]
 fn store_called(part: Part, call: Called, area: &mut [u8]) -> u64
     requires { (sets area.old 0 (standing_bytes call.session.standing) ≡ record_of part call.session) × ((call_numbered call.answer).size < 4294967296) }
     ensures { stored result area.new ≡ stored_after (call_numbered call.answer) (record_of part call.session) area.old }
@@ -69,6 +72,7 @@ fn store_called(part: Part, call: Called, area: &mut [u8]) -> u64
 }
 
 // A call of the session whose record the area holds, on a board of this part.
+#[tactic(auto, using(crate::proofs::RecordAgain::next_stored, session::proofs::CallLaws::call_size_fits, session::proofs::CallLaws::call_keeps_settings), unfolding(crate::specs::Boundary::call_from_c, octets::specs::Choice::pick))]
 pub fn call_record(
     part: Part,
     area: &mut [u8],

@@ -9,6 +9,7 @@ use settings::{MoveAnswer, ReadAnswer, WriteAnswer};
 use settings_large::LargeWriteAnswer;
 
 // What the settings reader answers.
+#[tactic(auto, unfolding(octets::specs::Choice::pick))]
 pub(crate) fn of_read(answer: ReadAnswer) -> u64
     ensures { result ≡ refusal_of (read_numbered answer) }
 {
@@ -19,6 +20,7 @@ pub(crate) fn of_read(answer: ReadAnswer) -> u64
 }
 
 // What the settings writer answers.
+#[tactic(auto, unfolding(octets::specs::Choice::pick))]
 pub(crate) fn of_write(answer: WriteAnswer) -> u64
     ensures { result ≡ refusal (write_number answer) }
 {
@@ -31,6 +33,7 @@ pub(crate) fn of_write(answer: WriteAnswer) -> u64
 }
 
 // What the writer of the larger part's settings answers.
+#[tactic(auto, unfolding(octets::specs::Choice::pick))]
 pub(crate) fn of_large_write(answer: LargeWriteAnswer) -> u64
     ensures { result ≡ refusal (larger.write_number answer) }
 {
@@ -43,6 +46,7 @@ pub(crate) fn of_large_write(answer: LargeWriteAnswer) -> u64
 }
 
 // What a move answers.
+#[tactic(auto, unfolding(octets::specs::Choice::pick))]
 pub(crate) fn of_move(answer: MoveAnswer) -> u64
     ensures { result ≡ refusal_of (move_numbered answer) }
 {

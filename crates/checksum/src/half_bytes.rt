@@ -3,6 +3,7 @@
 ghost use Rattle.std.specs.Prelude.{◌≡◌, ◌<◌};
 ghost use Rattle.checksum.specs.Checksum.{bits_on};
 
+#[tactic(auto, unfolding(crate::specs::Checksum::bits_on, crate::specs::Checksum::bit_on))]
 pub(crate) fn four(half: u32) -> u32
     requires { half < 16 }
     ensures { result ≡ bits_on 4 half }

@@ -16,24 +16,28 @@ use crate::short::word_bits;
 
 // What a number of eight bytes leaves to the second, third, fourth and fifth after it: itself, moved up by 145 - 128 and
 // 183 - 128 bits, by 211 - 192, by 300 - 256, and each time what did not fit.
+#[tactic(auto, unfolding(crate::specs::Inside::second_of))]
 fn second_of(long: u64) -> u64
     ensures { result ≡ second_of long }
 {
     long << 17 ^ long << 55
 }
 
+#[tactic(auto, unfolding(crate::specs::Inside::third_of))]
 fn third_of(long: u64) -> u64
     ensures { result ≡ third_of long }
 {
     long >> 47 ^ (long >> 9 ^ long << 19)
 }
 
+#[tactic(auto, unfolding(crate::specs::Inside::fourth_of))]
 fn fourth_of(long: u64) -> u64
     ensures { result ≡ fourth_of long }
 {
     long >> 45 ^ long << 44
 }
 
+#[tactic(auto, unfolding(crate::specs::Inside::fifth_of))]
 fn fifth_of(long: u64) -> u64
     ensures { result ≡ fifth_of long }
 {

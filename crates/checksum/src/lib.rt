@@ -1,4 +1,6 @@
 // The checksum of document 01: CRC32 from the seed 0xFFFFFFFF, not inverted at the end.
+#![tactic(auto)]
+
 mod half_bytes;
 mod lanes;
 mod number;
@@ -11,6 +13,7 @@ use lanes::by_lanes;
 use short::{by_bytes, by_words};
 
 // The checksum of the bytes.
+#[tactic(auto, unfolding(crate::specs::Checksum::checksum_of))]
 pub fn checksum_of(bytes: &[u8]) -> u32
     ensures { result ≡ checksum_of bytes.now }
 {

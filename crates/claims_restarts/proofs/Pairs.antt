@@ -15,7 +15,7 @@ use Rattle.session_state.specs.Phases.{at_start}
 use Rattle.settings.specs.declared.Shown.{Shown}
 use Rattle.settings.specs.declared.Kept.{Kept}
 use Rattle.settings.specs.Answers.{Numbered, numbered}
-use Rattle.flash.specs.Memory.{Memory, memory}
+use Rattle.flash.specs.Memory.{Memory}
 use Rattle.session_judge.specs.declared.Judged.{Judged}
 use Rattle.session_judge.proofs.StrangerLaws.{only_unlock_is_compared}
 use Rattle.session_act.specs.declared.Order.TheVariants.{Keep, EraseBoth}

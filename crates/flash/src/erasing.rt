@@ -5,6 +5,7 @@ ghost use Rattle.flash.specs.Erasing.{erase_of, erase_all_of};
 use crate::protection;
 
 // Erases one sector, or as much of it as is there.
+#[tactic(auto, using(crate::proofs::ErasingLaws::protected_sector_kept, crate::proofs::ErasingLaws::filled_sector_erased))]
 fn erase_sector(memory: &mut [u8], sector_size: usize, protection: &[u8], sector: usize)
     requires { (0 < sector_size) × (sector * sector_size < length memory.old) }
     ensures { memory.new ≡ erase_of sector_size protection.now sector sector memory.old }
@@ -18,6 +19,7 @@ fn erase_sector(memory: &mut [u8], sector_size: usize, protection: &[u8], sector
 }
 
 // Erases the sectors from first to last, as far as the memory reaches; those that are protected keep their bytes.
+#[tactic(auto, using(crate::proofs::ErasingLaws::erase_empty_sectors, crate::proofs::ErasingLaws::erase_empty_memory, crate::proofs::ErasingLaws::erase_ends_at_last_sector, crate::proofs::ErasingLaws::erase_no_sector))]
 fn erase(memory: &mut [u8], sector_size: usize, protection: &[u8], first: usize, last: usize)
     ensures { memory.new ≡ erase_of sector_size protection.now first last memory.old }
 {
@@ -37,6 +39,7 @@ fn erase(memory: &mut [u8], sector_size: usize, protection: &[u8], first: usize,
 }
 
 // Erases the sectors from that of one place to that of another, as far as the memory reaches; those that are protected keep their bytes.
+#[tactic(auto, using(crate::proofs::ErasingLaws::erase_empty_sectors))]
 pub fn erase_between(
     memory: &mut [u8],
     sector_size: usize,
@@ -59,6 +62,7 @@ pub fn erase_between(
 }
 
 // Erases every sector that is not protected.
+#[tactic(auto, using(crate::proofs::ErasingLaws::erase_to_length_is_all))]
 pub fn erase_all(memory: &mut [u8], sector_size: usize, protection: &[u8])
     ensures { memory.new ≡ erase_all_of sector_size protection.now memory.old }
 {

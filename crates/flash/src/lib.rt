@@ -1,4 +1,6 @@
 // Flash and the SRAM window: which region holds a range, its sectors and their protection, and what an erase and a program leave.
+#![tactic(auto)]
+
 mod erasing;
 mod programming;
 mod protection;
@@ -9,7 +11,7 @@ pub use programming::program;
 pub use regions::{bytes_in, is_main_size, locate};
 
 // Where a range of addresses can lie.
-#[derive(Drop)]
+#[derive(Clone, Copy)]
 pub enum Region {
     Main,
     Settings,

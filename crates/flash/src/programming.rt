@@ -19,6 +19,7 @@ fn and_into(area: &mut [u8], bytes: &[u8])
 }
 
 // Programs bytes that lie in one sector.
+#[tactic(auto, using(crate::proofs::ProgrammingLaws::program_protected_sector, crate::proofs::ProgrammingLaws::program_open_sector))]
 fn program_sector(memory: &mut [u8], sector_size: usize, protection: &[u8], at: usize, bytes: &[u8])
     requires { (at % sector_size + length bytes.now ≤ sector_size) × (at + length bytes.now ≤ length memory.old) × (0 < sector_size) }
     ensures { memory.new ≡ program_of sector_size protection.now at bytes.now memory.old }
@@ -31,6 +32,7 @@ fn program_sector(memory: &mut [u8], sector_size: usize, protection: &[u8], at: 
 }
 
 // Programs bytes from a place on, as far as the memory reaches, sector by sector; protected sectors keep their bytes.
+#[tactic(auto, using(crate::proofs::ProgrammingLaws::program_empty_sectors, crate::proofs::ProgrammingLaws::program_done))]
 pub fn program(memory: &mut [u8], sector_size: usize, protection: &[u8], at: usize, bytes: &[u8])
     ensures { memory.new ≡ program_of sector_size protection.now at bytes.now memory.old }
 {

@@ -9,6 +9,7 @@ use parts::Part;
 const MAIN_START: u32 = 0;
 
 // Whether MAIN may have so many bytes: whole sectors, at least one, up to the part's most.
+#[tactic(auto, unfolding(crate::specs::Regions::is_main_size, octets::specs::Choice::pick))]
 pub fn is_main_size(part: Part, size: usize) -> bool
     ensures { result ≡ is_main_size part size }
 {
@@ -25,6 +26,7 @@ pub fn is_main_size(part: Part, size: usize) -> bool
 
 // Whether a region of so many bytes from a start on holds the range wholly.
 // The sums are of 64 bits, and a count above the size is told first, so nothing wraps.
+#[tactic(auto, unfolding(crate::specs::Regions::lies_within, octets::specs::Choice::pick))]
 fn lies_within(start: u32, size: u32, first: u32, count: u64) -> bool
     ensures { result ≡ lies_within start size first count }
 {
@@ -39,6 +41,7 @@ fn lies_within(start: u32, size: u32, first: u32, count: u64) -> bool
 }
 
 // The place of a range that a region holds wholly.
+#[tactic(auto, unfolding(octets::specs::Choice::pick))]
 fn place_in(
     region: Region,
     sector_size: u32,
@@ -83,6 +86,7 @@ fn place_in_window(start: u32, first: u32) -> Place
 }
 
 // The region that holds the range wholly, for every count. The settings flash is one sector, and the number is its bit.
+#[tactic(auto, using(crate::proofs::RegionLaws::within_bounds), unfolding(crate::specs::Regions::place_of, octets::specs::Choice::pick))]
 pub fn locate(
     part: Part,
     main_size: u32,

@@ -1,4 +1,6 @@
 // What both ends of the line share: codes by name, packets and the commands in them, acknowledgements, replies.
+#![tactic(auto)]
+
 mod acknowledgement;
 pub mod codes;
 mod commands;
@@ -27,7 +29,7 @@ pub const SECOND_AT: usize = 8;
 // A protected command. Its wrong length is told in here, so that nobody looks at it before the lock. The data of Program stay
 // in the packet, `size` bytes from SECOND_AT on, and so does a reset password, 16 bytes from FIRST_AT on. Of the two that
 // program, 0x24 is the silent one.
-#[derive(Drop)]
+#[derive(Clone, Copy)]
 pub enum Guarded {
     RangeErase {
         start: u32,
@@ -54,7 +56,7 @@ pub enum Guarded {
 }
 
 // What a packet asks for, read without looking at the lock. The password of Unlock stays in the packet, 32 bytes from FIRST_AT on.
-#[derive(Drop)]
+#[derive(Clone, Copy)]
 pub enum Command {
     Connect,
     Info,
@@ -68,7 +70,7 @@ pub enum Command {
 
 // What is sent back; the bytes of Read back and the version that Info tells stand beside it. Info is long on a part whose version has eight bytes.
 // FlashError is the one Detailed Error there is.
-#[derive(Drop)]
+#[derive(Clone, Copy)]
 pub enum Reply {
     Silence,
     Acknowledged(u8),

@@ -35,6 +35,7 @@ fn put_core_reply(code: u8, rest: &[u8], area: &mut [u8])
 }
 
 // Writes a core reply where there is room for it and it has at most 1,729 bytes.
+#[tactic(auto, unfolding(crate::specs::Replies::sent_of, octets::specs::Choice::pick))]
 fn write_core_reply(code: u8, rest: &[u8], area: &mut [u8]) -> usize
     ensures { sent result area.new ≡ sent_of (core_reply (code ∷ rest.now)) area.old }
 {
@@ -49,6 +50,7 @@ fn write_core_reply(code: u8, rest: &[u8], area: &mut [u8]) -> usize
     count + REPLY_FRAME
 }
 
+#[tactic(auto, unfolding(crate::specs::Replies::sent_of, octets::specs::Choice::pick))]
 fn write_acknowledgement(code: u8, area: &mut [u8]) -> usize
     ensures { sent result area.new ≡ sent_of (code ∷ []) area.old }
 {
@@ -61,6 +63,7 @@ fn write_acknowledgement(code: u8, area: &mut [u8]) -> usize
 
 // What the device tells of itself: 0x0100, 0x0100, a version, 0x0001, 0x06C0, 0x20000160, two ids. The zeros are filled in. The version's bytes
 // are those that some begin with; what is not there counts as 0.
+#[tactic(auto, unfolding(octets::specs::Number::bytes_of, crate::specs::Replies::info_of))]
 fn info_of(version: &[u8], bcr_id: u32, bsl_id: u32) -> [u8; 24]
     ensures { result ≡ info_of 4 (number_at 0 4 version.now) bcr_id bsl_id }
 {
@@ -72,6 +75,7 @@ fn info_of(version: &[u8], bcr_id: u32, bsl_id: u32) -> [u8; 24]
 }
 
 // The same with a version of eight bytes.
+#[tactic(auto, unfolding(crate::specs::Replies::info_of, octets::specs::Number::bytes_of))]
 fn long_info_of(version: &[u8], bcr_id: u32, bsl_id: u32) -> [u8; 28]
     ensures { result ≡ info_of 8 (number_at 0 8 version.now) bcr_id bsl_id }
 {
@@ -84,6 +88,7 @@ fn long_info_of(version: &[u8], bcr_id: u32, bsl_id: u32) -> [u8; 28]
     info
 }
 
+#[tactic(auto, unfolding(crate::specs::Replies::reply_bytes))]
 fn write_info(long: bool, version: &[u8], bcr_id: u32, bsl_id: u32, area: &mut [u8]) -> usize
     ensures { sent result area.new ≡ sent_of (reply_bytes (Info long bcr_id bsl_id) version.now) area.old }
 {
@@ -94,6 +99,7 @@ fn write_info(long: bool, version: &[u8], bcr_id: u32, bsl_id: u32, area: &mut [
     write_core_reply(codes::INFO_REPLY, &info_of(version, bcr_id, bsl_id), area)
 }
 
+#[tactic(auto, unfolding(octets::specs::Number::bytes_of))]
 fn bytes_of(number: u32) -> [u8; 4]
     ensures { result ≡ bytes_of 4 number }
 {
@@ -104,6 +110,7 @@ fn bytes_of(number: u32) -> [u8; 4]
 
 // Writes a reply to the start of an area and answers its size. A reply for which there is no room, or of more than
 // 1,729 bytes, is not written at all, and the answer is 0.
+#[tactic(auto, unfolding(crate::specs::Replies::reply_bytes))]
 pub fn write_reply(reply: Reply, bytes: &[u8], area: &mut [u8]) -> usize
     ensures { sent result area.new ≡ sent_of (reply_bytes reply bytes.now) area.old }
 {

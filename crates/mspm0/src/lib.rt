@@ -1,4 +1,6 @@
 // The loader of the MSPM0: a session of one of its boards, and each call of it.
+#![tactic(auto)]
+
 ghost use Rattle.std.specs.Prelude.{◌≡◌};
 ghost use Rattle.parts.specs.Parts.{mspm0};
 ghost use Rattle.flash.specs.Memory.{memory};

@@ -6,6 +6,7 @@ ghost use Rattle.octets.specs.Hex.{digit, text_of, hex_of};
 use crate::{reading, storing};
 
 // The digit that stands for a number.
+#[tactic(auto, unfolding(crate::specs::Hex::digit, crate::specs::Choice::pick))]
 fn digit_of(number: u8) -> u8
     requires { number < 16 }
     ensures { result ≡ digit number }

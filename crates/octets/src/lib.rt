@@ -1,4 +1,6 @@
 // Bytes: read, compared, stored, and printed; and the numbers in them.
+#![tactic(auto)]
+
 mod comparing;
 mod decimal;
 mod hex;

@@ -10,6 +10,7 @@ pub fn least(a: usize, b: usize) -> usize
 }
 
 // Whether a number is a multiple of a unit; of 0 there are none.
+#[tactic(auto, unfolding(crate::specs::Number::is_multiple, crate::specs::Choice::pick))]
 pub fn is_multiple(number: u64, unit: u64) -> bool
     ensures { result ≡ is_multiple number unit }
 {

@@ -1,10 +1,12 @@
 // The parts whose loader this is. Each is a type that carries its numbers as constants; `Part` hands them on.
+#![tactic(auto)]
+
 ghost use Rattle.std.specs.Prelude.{◌≡◌};
 ghost use Rattle.parts.specs.Parts.{mspm0, am13e230x};
 
 // The numbers of a part. MAIN starts at 0, and its size is the board's. A part without an SRAM window has one of 0 bytes. A version has four
 // bytes, or eight where it is long.
-#[derive(Drop)]
+#[derive(Clone, Copy)]
 pub struct Part {
     pub sector_size: u32,
     pub word_size: u32,

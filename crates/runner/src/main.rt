@@ -1,23 +1,25 @@
 // The session runner: reads a script from standard input, plays it to a board in memory, and prints a line for each entry.
+#![tactic(auto)]
+
 ghost use Rattle.std.specs.Prelude.{◌≡◌, ◌<◌};
 ghost use Rattle.session.specs.CallAnswers.{call_numbered};
 
-use libc::{STDIN_FILENO, STDOUT_FILENO};
 use runner_text::{LINE_SIZE, Script};
 use session::{CallAnswer, Session};
 use session_state::Standing;
+use std::io;
 
-fn print_line(number: u8, reply: &[u8]) {
+fn print_line(rt: &impl Print, number: u8, reply: &[u8]) -> io::Result<()> {
     let mut line = [0u8; LINE_SIZE];
     let size = runner_text::write_line(number, reply, &mut line);
-    io::write_all(STDOUT_FILENO, octets::part_of(&line, 0, size));
+    rt.write_all(octets::part_of(&line, 0, size))
 }
 
-fn print_end(standing: Standing) {
+fn print_end(rt: &impl Print, standing: Standing) -> io::Result<()> {
     let phase = standing.phase;
     let mut line = [0u8; LINE_SIZE];
     let size = runner_text::write_end(phase, standing.tries, &mut line);
-    io::write_all(STDOUT_FILENO, octets::part_of(&line, 0, size));
+    rt.write_all(octets::part_of(&line, 0, size))
 }
 
 // How many bytes the reply of a call has; a refused call has none.
@@ -33,6 +35,7 @@ fn reply_size(answer: CallAnswer) -> usize
 }
 
 fn play_entry(
+    rt: &impl Print,
     script: &[u8],
     index: u8,
     session: Session,
@@ -40,7 +43,7 @@ fn play_entry(
     image: &mut [u8],
     window: &mut [u8],
     reply: &mut [u8],
-) -> Session
+) -> io::Result<Session>
     requires { index < 255 }
 {
     let wait = runner_text::wait_of(script, index);
@@ -48,12 +51,12 @@ fn play_entry(
     let called = mspm0::call(session, main, image, window, wait, packet, reply);
     let answer = called.answer;
     let size = reply_size(answer);
-    print_line(index + 1, octets::part_of(reply, 0, size));
-    called.session
+    print_line(rt, index + 1, octets::part_of(reply, 0, size))?;
+    Ok(called.session)
 }
 
 // A board with 4,096 bytes of MAIN and blank settings, all of it 0xFF, which start never refuses; T-05: "The runner lends zeros."
-fn play(script: &[u8], count: u8) {
+fn play(rt: &impl Print, script: &[u8], count: u8) -> io::Result<()> {
     let mut main = [0xFFu8; 4096];
     let mut image = [0xFFu8; 1024];
     let mut window = [0u8; 3456];
@@ -61,6 +64,7 @@ fn play(script: &[u8], count: u8) {
     let mut session = mspm0::start(false, &main, &image, &window).session;
     for index in 0..count {
         session = play_entry(
+            rt,
             script,
             index,
             session,
@@ -68,23 +72,22 @@ fn play(script: &[u8], count: u8) {
             &mut image,
             &mut window,
             &mut reply,
-        );
+        )?;
     }
-    print_end(session.standing);
+    print_end(rt, session.standing)
 }
 
-fn run(script: &[u8]) {
+fn run(rt: &impl Print, script: &[u8]) -> io::Result<()> {
     let answer = runner_text::read_script(script);
     let Script::Good { count } = answer else {
-        io::write_all(STDOUT_FILENO, b"bad script\n");
-        return;
+        return rt.write_all(b"bad script\n");
     };
-    play(script, count);
+    play(rt, script, count)
 }
 
 // One byte more is read than a script may have, so that one that is too long is seen.
-fn main() {
+fn main(rt: HostRuntime) -> io::Result<()> {
     let mut input = [0u8; runner_text::SCRIPT_LIMIT + 1];
-    let size = io::read_full(STDIN_FILENO, &mut input);
-    run(&input[..size]);
+    let size = program_io::read_full(&mut rt.stdin(), &mut input)?;
+    run(&rt, &input[..size])
 }

@@ -1,24 +1,26 @@
 // The session runner of the AM13E230x: reads a script from standard input, plays it to a board of that part in memory, and prints a line for each
 // entry.
+#![tactic(auto)]
+
 ghost use Rattle.std.specs.Prelude.{◌≡◌, ◌<◌};
 ghost use Rattle.session.specs.CallAnswers.{call_numbered};
 
-use libc::{STDIN_FILENO, STDOUT_FILENO};
 use runner_text::{LINE_SIZE, Script};
 use session::{CallAnswer, Session};
 use session_state::Standing;
+use std::io;
 
-fn print_line(number: u8, reply: &[u8]) {
+fn print_line(rt: &impl Print, number: u8, reply: &[u8]) -> io::Result<()> {
     let mut line = [0u8; LINE_SIZE];
     let size = runner_text::write_line(number, reply, &mut line);
-    io::write_all(STDOUT_FILENO, octets::part_of(&line, 0, size));
+    rt.write_all(octets::part_of(&line, 0, size))
 }
 
-fn print_end(standing: Standing) {
+fn print_end(rt: &impl Print, standing: Standing) -> io::Result<()> {
     let phase = standing.phase;
     let mut line = [0u8; LINE_SIZE];
     let size = runner_text::write_end(phase, standing.tries, &mut line);
-    io::write_all(STDOUT_FILENO, octets::part_of(&line, 0, size));
+    rt.write_all(octets::part_of(&line, 0, size))
 }
 
 // How many bytes the reply of a call has; a refused call has none.
@@ -34,13 +36,14 @@ fn reply_size(answer: CallAnswer) -> usize
 }
 
 fn play_entry(
+    rt: &impl Print,
     script: &[u8],
     index: u8,
     session: Session,
     main: &mut [u8],
     image: &mut [u8],
     reply: &mut [u8],
-) -> Session
+) -> io::Result<Session>
     requires { index < 255 }
 {
     let wait = runner_text::wait_of(script, index);
@@ -48,34 +51,35 @@ fn play_entry(
     let called = am13e230x::call(session, main, image, wait, packet, reply);
     let answer = called.answer;
     let size = reply_size(answer);
-    print_line(index + 1, octets::part_of(reply, 0, size));
-    called.session
+    print_line(rt, index + 1, octets::part_of(reply, 0, size))?;
+    Ok(called.session)
 }
 
 // A board with 4,096 bytes of MAIN, two sectors, and blank settings, all of it 0xFF, which start never refuses.
-fn play(script: &[u8], count: u8) {
+fn play(rt: &impl Print, script: &[u8], count: u8) -> io::Result<()> {
     let mut main = [0xFFu8; 4096];
     let mut image = [0xFFu8; 2048];
     let mut reply = [0u8; 1729];
     let mut session = am13e230x::start(false, &main, &image).session;
     for index in 0..count {
-        session = play_entry(script, index, session, &mut main, &mut image, &mut reply);
+        session = play_entry(
+            rt, script, index, session, &mut main, &mut image, &mut reply,
+        )?;
     }
-    print_end(session.standing);
+    print_end(rt, session.standing)
 }
 
-fn run(script: &[u8]) {
+fn run(rt: &impl Print, script: &[u8]) -> io::Result<()> {
     let answer = runner_text::read_script(script);
     let Script::Good { count } = answer else {
-        io::write_all(STDOUT_FILENO, b"bad script\n");
-        return;
+        return rt.write_all(b"bad script\n");
     };
-    play(script, count);
+    play(rt, script, count)
 }
 
 // One byte more is read than a script may have, so that one that is too long is seen.
-fn main() {
+fn main(rt: HostRuntime) -> io::Result<()> {
     let mut input = [0u8; runner_text::SCRIPT_LIMIT + 1];
-    let size = io::read_full(STDIN_FILENO, &mut input);
-    run(&input[..size]);
+    let size = program_io::read_full(&mut rt.stdin(), &mut input)?;
+    run(&rt, &input[..size])
 }

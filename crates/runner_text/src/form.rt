@@ -20,6 +20,7 @@ fn length_of(script: &[u8], index: u8) -> u16
 }
 
 // How many bytes the packets of the first so many entries have together.
+#[tactic(auto, unfolding(crate::specs::Form::lengths_in))]
 fn lengths_of(script: &[u8], count: u8) -> usize
     ensures { (result ≡ lengths_in script.now count) × (result ≤ 65535 * count) }
 {
@@ -41,6 +42,7 @@ fn packet_at(script: &[u8], index: u8) -> usize
 }
 
 // Whether a script keeps the form, and how many entries it has: its size, its count and all its lengths are looked at.
+#[tactic(auto, unfolding(crate::specs::Form::script_of, crate::specs::Form::keeps_form, octets::specs::Choice::pick))]
 pub fn read_script(script: &[u8]) -> Script
     ensures { script_told result ≡ script_of script.now }
 {

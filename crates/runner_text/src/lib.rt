@@ -1,4 +1,6 @@
 // The text of the session runner: the script that it reads, and the lines that it writes.
+#![tactic(auto)]
+
 mod end_line;
 mod form;
 mod writing;

@@ -4,6 +4,7 @@ ghost use Rattle.std.proofs.lemmas.List.Edits.{sets};
 ghost use Rattle.runner_text.specs.Writing.{reply_text, text_size, line_of, written, written_of};
 
 // A reply as text: a dash where it has no bytes. Answers the place after it.
+#[tactic(auto, unfolding(crate::specs::Writing::reply_text, octets::specs::Choice::pick))]
 fn put_reply(area: &mut [u8], at: usize, reply: &[u8]) -> usize
     requires { at + text_size (length reply.now) ≤ length area.old }
     ensures { (result ≡ at + text_size (length reply.now)) × (area.new ≡ sets area.old at (reply_text reply.now)) }
@@ -17,6 +18,7 @@ fn put_reply(area: &mut [u8], at: usize, reply: &[u8]) -> usize
 }
 
 // Whether an area of so many bytes has no room for a line with so many digits and so many bytes of a reply.
+#[tactic(auto, unfolding(octets::specs::Choice::pick))]
 fn is_too_small(size: usize, digits: usize, count: usize) -> bool
     requires { digits ≤ 10 }
     ensures { result ≡ ltb size (digits + text_size count + 1) }

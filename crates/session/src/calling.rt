@@ -102,6 +102,7 @@ fn served(session: Session, judged: Judged, size: usize) -> Called
 }
 
 // A call with a valid record, a large enough area and a window of the part's size.
+#[tactic(auto, unfolding(crate::specs::Calling::serve_of))]
 fn serve(
     part: Part,
     session: Session,
@@ -135,6 +136,7 @@ fn serve(
 
 // A call on a board of this part: so many milliseconds after the one before came a packet, perhaps empty. The reply is written to the start of the area.
 // A call that is refused changes nothing, and the session is the one that was given.
+#[tactic(auto, unfolding(crate::specs::Calling::call_of, octets::specs::Choice::pick))]
 pub fn call(
     part: Part,
     session: Session,

@@ -1,4 +1,6 @@
 // A session of a board: its start, and each call of it.
+#![tactic(auto)]
+
 mod calling;
 mod passwords;
 mod records;
@@ -10,7 +12,7 @@ use settings::{Kept, Refusal};
 pub use starting::start;
 
 // The session record: how the session stands, the size of MAIN, and the settings as they were at start.
-#[derive(Drop)]
+#[derive(Clone, Copy)]
 pub struct Session {
     pub standing: Standing,
     pub main_size: u32,
@@ -18,7 +20,7 @@ pub struct Session {
 }
 
 // What start answers.
-#[derive(Drop)]
+#[derive(Clone, Copy)]
 pub enum StartAnswer {
     Started,
     FuseSet,

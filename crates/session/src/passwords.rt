@@ -20,6 +20,7 @@ const RESET_PASSWORD_SIZE: usize = 16;
 
 // The bit of which the judge hears: whether an Unlock carries the password. A packet with another command byte, or one that ends before a
 // password would, is no Unlock, and is judged alike.
+#[tactic(auto, using(session_judge::proofs::StrangerLaws::others_are_not_compared, session_judge::proofs::StrangerLaws::short_are_not_compared))]
 pub(crate) fn unlocks(password: &[u8], packet: &[u8]) -> bool
     ensures { (standing : Standing) (last_rate alert wait : ℕ) → judged_of last_rate standing alert wait packet.now result ≡ judged_of last_rate standing alert wait packet.now (are_same password.now (password_in packet.now)) }
 {

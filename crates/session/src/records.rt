@@ -6,6 +6,7 @@ use crate::Session;
 use parts::Part;
 
 // Whether the record is valid beside images of these sizes.
+#[tactic(auto, unfolding(crate::specs::Records::is_record, octets::specs::Choice::pick))]
 pub(crate) fn is_record(part: Part, session: Session, main_size: usize, image_size: usize) -> bool
     ensures { result ≡ is_record part session main_size image_size }
 {

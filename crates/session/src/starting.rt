@@ -11,6 +11,7 @@ use session_state::{Phase, RATE_ID_AT_START, Standing};
 use settings::{Kept, ReadAnswer, Refusal, SettingsReading};
 
 // How a session stands at start.
+#[tactic(auto, unfolding(session_state::specs::Phases::at_start))]
 fn at_start() -> Standing
     ensures { result ≡ at_start }
 {
@@ -42,6 +43,7 @@ fn refused(answer: StartAnswer) -> Started
 }
 
 // What is read of an image, by its size: one of 2,048 bytes is the larger part's.
+#[tactic(auto, unfolding(crate::specs::Starting::settings_read, octets::specs::Choice::pick))]
 fn read_image(image: &[u8]) -> SettingsReading
     ensures { settings_told result ≡ settings_read image.now }
 {
@@ -52,6 +54,7 @@ fn read_image(image: &[u8]) -> SettingsReading
 }
 
 // The session of settings that were read, if they were.
+#[tactic(auto, unfolding(crate::specs::Starting::start_read, octets::specs::Choice::pick))]
 fn start_read(main_size: u32, reading: SettingsReading) -> Started
     ensures { start_told result ≡ start_read main_size (settings_told reading) }
 {
@@ -66,6 +69,7 @@ fn start_read(main_size: u32, reading: SettingsReading) -> Started
 }
 
 // Starts a session on a board of this part: its fuse, its MAIN flash, its settings flash and its SRAM window, of which the size alone is looked at.
+#[tactic(auto, using(flash::proofs::RegionLaws::main_size_is_small), unfolding(crate::specs::Starting::start_of, octets::specs::Choice::pick))]
 pub fn start(part: Part, fuse: bool, main: &[u8], image: &[u8], window: &[u8]) -> Started
     ensures { start_told result ≡ start_of part fuse main.now image.now window.now }
 {

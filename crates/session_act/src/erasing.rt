@@ -13,6 +13,7 @@ const MODE_WITH_PASSWORD: u8 = 2;
 
 // The sectors from start's to end's, where the whole range lies in MAIN and no place of it is protected. The count is of 64 bits, so it does
 // not wrap.
+#[tactic(auto, unfolding(crate::specs::Erasing::range_erase, octets::specs::Choice::pick))]
 pub(crate) fn range_erase(
     part: Part,
     main_size: u32,
@@ -46,6 +47,7 @@ pub(crate) fn range_erase(
 }
 
 // Both regions where the reset mode and the password allow it.
+#[tactic(auto, unfolding(crate::specs::Erasing::factory_reset, crate::specs::Erasing::lacks_reset_password, octets::specs::Choice::pick))]
 pub(crate) fn factory_reset(mode: u8, with: bool, right: bool) -> Planned
     ensures { result ≡ factory_reset mode with right }
 {

@@ -1,4 +1,6 @@
 // Acting: what was judged is planned, and the plan is carried out on memory.
+#![tactic(auto)]
+
 mod erasing;
 mod orders;
 mod planning;
@@ -13,7 +15,7 @@ pub use orders::carry_out;
 pub use planning::plan;
 
 // All that can be done to memory. Places are counted from the start of a region; the data of a program are those of the packet.
-#[derive(Drop)]
+#[derive(Clone, Copy)]
 pub enum Order {
     Keep,
     EraseBetween { start: u32, end: u32 },

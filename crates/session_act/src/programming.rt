@@ -12,6 +12,7 @@ use parts::Part;
 // What an erase leaves.
 const BLANK: u8 = 0xFF;
 
+#[tactic(auto, unfolding(crate::specs::Programming::is_aligned, octets::specs::Choice::pick))]
 fn is_aligned(word: u32, address: u32, size: u32) -> bool
     ensures { result ≡ is_aligned word address size }
 {
@@ -50,6 +51,7 @@ fn is_blank<'a>(
 
 // Programs the region that holds the range wholly, where it is flash, no place of it is protected and no word is written. The SRAM window
 // takes any bytes at any address.
+#[tactic(auto, using(crate::proofs::WrittenLaws::written_by_bytes), unfolding(crate::specs::Programming::program_at, octets::specs::Choice::pick))]
 pub(crate) fn program<'a>(
     part: Part,
     main_size: u32,

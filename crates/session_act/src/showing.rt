@@ -14,6 +14,7 @@ const READOUT_ON: u16 = 0xAABB;
 const READ_BACK_MOST: u32 = 1720;
 
 // Where the bytes of a range stand that may be read back.
+#[tactic(auto, unfolding(crate::specs::Showing::read_back_at, octets::specs::Choice::pick))]
 pub(crate) fn read_back(
     part: Part,
     readout: u16,
@@ -56,6 +57,7 @@ pub(crate) fn read_back(
 }
 
 // The checksum of a range that one region of flash holds wholly.
+#[tactic(auto, unfolding(crate::specs::Showing::verify_at, octets::specs::Choice::pick))]
 pub(crate) fn verify<'a>(
     part: Part,
     main_size: u32,

@@ -16,6 +16,7 @@ fn version_size(long: bool) -> u32
 
 // The version stands beside the answer, or nothing does where its pointer leads to none; all else is among the settings that may be shown.
 // The sum is of 64 bits, so it does not wrap.
+#[tactic(auto, unfolding(crate::specs::Info::with_version, octets::specs::Choice::pick))]
 pub(crate) fn info(long: bool, shown: Shown, main_size: usize) -> Planned
     ensures { result ≡ info_planned long shown main_size }
 {

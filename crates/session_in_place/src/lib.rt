@@ -1,4 +1,6 @@
 // The session record updated in place. Document 01: "keeps one session record and hands it to each call to be updated".
+#![tactic(auto)]
+
 mod calling;
 mod starting;
 

@@ -6,6 +6,7 @@ ghost use Rattle.session_in_place.specs.Starting.{start_left, start_in_place};
 use session::{Session, StartAnswer, Started};
 
 // The session that was started, or beside a refusal the one that was given.
+#[tactic(auto, using(crate::proofs::StartLaws::not_started), unfolding(crate::specs::Starting::start_in_place, octets::specs::Choice::pick))]
 fn start_or_keep(session: Session, fuse: bool, main: &[u8], image: &[u8], window: &[u8]) -> Started
     ensures { start_told result ≡ start_in_place session fuse main.now image.now window.now }
 {

@@ -7,7 +7,6 @@ use native.Mathlib.Omega.{arith}
 use borrow.Author.Tests.{eqb-true, eqb-false, ltb-true, ltb-false}
 use lib.Dec.{ltb, eqb}
 use lib.ListN.{length}
-use Rattle.octets.specs.Choice.{pick}
 use Rattle.octets.proofs.Searching.{by_pick}
 use Rattle.line.specs.Codes as codes
 use Rattle.line.specs.declared.Guarded.{Guarded}

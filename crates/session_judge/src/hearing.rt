@@ -35,6 +35,7 @@ fn connected(standing: Standing) -> Standing
 const CONNECT_SIZE: usize = PACKET_FRAME + 1;
 
 // Only an exact Connect is answered, so nothing else is read of the packet.
+#[tactic(auto, unfolding(crate::specs::Hearing::heard_in_detect, octets::specs::Choice::pick))]
 fn heard_in_detect(last_rate: u8, standing: Standing, packet: &[u8]) -> Judged
     ensures { result ≡ heard_in_detect last_rate standing packet.now }
 {
@@ -67,6 +68,7 @@ fn is_known(command: Command) -> bool
 }
 
 // A command byte that is one of the twelve ends idle time.
+#[tactic(auto, unfolding(crate::specs::Hearing::stirred, octets::specs::Choice::pick))]
 fn stirred(standing: Standing, command: Command) -> Standing
     ensures { result ≡ stirred standing command }
 {
@@ -83,6 +85,7 @@ fn stirred(standing: Standing, command: Command) -> Standing
     standing
 }
 
+#[tactic(auto, unfolding(crate::specs::Hearing::heard_in_command, octets::specs::Choice::pick))]
 fn heard_in_command(
     last_rate: u8,
     standing: Standing,
@@ -103,6 +106,7 @@ fn heard_in_command(
 
 // What a session does with a packet that came after a wait of so many milliseconds. `right` says whether the packet carries the
 // session's password, and is looked at only where the packet is an Unlock. The part's last rate has the id `last_rate`.
+#[tactic(auto, unfolding(crate::specs::Hearing::heard_after, crate::specs::Hearing::judged_of, octets::specs::Choice::pick))]
 pub fn judge(
     last_rate: u8,
     standing: Standing,

@@ -1,5 +1,7 @@
 // The judge: what a session does with a packet. It sees how the session stands, the alert setting, the wait, the packet, and one
 // bit: whether the packet carries the password. No memory and no password come in here.
+#![tactic(auto)]
+
 mod hearing;
 mod judgement;
 mod obeying;
@@ -10,7 +12,7 @@ use line::{Guarded, Reply};
 use session_state::Standing;
 
 // What is to be done. Only a session that is unlocked is told to perform a protected command.
-#[derive(Drop)]
+#[derive(Clone, Copy)]
 pub enum Effect {
     Say(Reply),
     TellInfo,

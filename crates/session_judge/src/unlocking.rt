@@ -18,6 +18,7 @@ const ASLEEP: Phase = Phase::Command {
 };
 
 // One more, and at most 3.
+#[tactic(auto, unfolding(crate::specs::Unlocking::counted_up, octets::specs::Choice::pick))]
 fn counted_up(wrong: u8) -> u8
     ensures { result ≡ counted_up wrong }
 {
@@ -28,6 +29,7 @@ fn counted_up(wrong: u8) -> u8
 }
 
 // One more of all wrong passwords, up to the most that are told.
+#[tactic(auto, unfolding(crate::specs::Unlocking::tried_once, octets::specs::Choice::pick))]
 fn tried_once(tries: u32) -> u32
     ensures { result ≡ tried_once tries }
 {
@@ -56,6 +58,7 @@ fn judged_wrong(standing: Standing, phase: Phase, effect: Effect, burn: bool) ->
 }
 
 // The third wrong password, and each later one.
+#[tactic(auto, unfolding(crate::specs::Unlocking::alerted, octets::specs::Choice::pick))]
 fn alerted(standing: Standing, alert: u8) -> Judged
     ensures { result ≡ alerted standing alert }
 {
@@ -70,6 +73,7 @@ fn alerted(standing: Standing, alert: u8) -> Judged
 }
 
 // A password was sent: it is right, wrong, or wrong too often.
+#[tactic(auto, unfolding(crate::specs::Unlocking::tried_wrong, crate::specs::Unlocking::tried, octets::specs::Choice::pick))]
 pub(crate) fn tried(standing: Standing, alert: u8, right: bool) -> Judged
     ensures { result ≡ tried standing alert right }
 {

@@ -1,4 +1,6 @@
 // What is sent of an answer.
+#![tactic(auto)]
+
 ghost use Rattle.std.specs.Prelude.{◌≡◌};
 ghost use Rattle.line.specs.Commands.{is_silent};
 ghost use Rattle.line.specs.Replies.{sent};
@@ -28,6 +30,7 @@ fn without_core(reply: Reply) -> Reply
 }
 
 // Whether the packet's command never gets a core reply, by its command byte alone.
+#[tactic(auto, unfolding(line::specs::Codes::is_one_of, octets::specs::Choice::pick))]
 fn is_silent(packet: &[u8]) -> bool
     ensures { result ≡ is_silent packet.now }
 {
@@ -41,6 +44,7 @@ fn is_silent(packet: &[u8]) -> bool
 }
 
 // A silent command gets no core reply.
+#[tactic(auto, unfolding(crate::specs::Answering::hushed, octets::specs::Choice::pick))]
 fn hush(packet: &[u8], reply: Reply) -> Reply
     ensures { result ≡ hushed packet.now reply }
 {
@@ -52,6 +56,7 @@ fn hush(packet: &[u8], reply: Reply) -> Reply
 
 // Writes what is sent of a reply to the start of an area, and answers its size. The bytes that go with it are so many of a region, from a
 // place on that was looked up before. A reply for which there is no room, or of more than 1,729 bytes, is not written at all, and the answer is 0.
+#[tactic(auto, using(crate::proofs::AnsweringLaws::silence_sends_nothing), unfolding(crate::specs::Answering::answer_of))]
 pub fn answer<'a>(
     reply: Reply,
     region: Region,

@@ -1,5 +1,7 @@
 // How a session stands: its phase, lock, sleep, idle time, count and total of wrong passwords, and rate; and how time passes for it.
 // No memory, no settings and no password in here.
+#![tactic(auto)]
+
 mod phases;
 mod rates;
 mod waits;
@@ -21,7 +23,7 @@ pub const MOST_TRIES: u32 = 65535;
 pub const RATE_ID_AT_START: u8 = 2;
 
 // The lock and the sleep that is left, in milliseconds, are there in the command phase alone.
-#[derive(Drop)]
+#[derive(Clone, Copy)]
 pub enum Phase {
     Detect,
     Command { unlocked: bool, sleep: u32 },
@@ -32,7 +34,7 @@ pub enum Phase {
 
 // How a session stands: its phase, for how many milliseconds it has been idle, the count of wrong passwords, which a right one clears, the
 // rate id, and the total of wrong passwords, which nothing clears.
-#[derive(Drop)]
+#[derive(Clone, Copy)]
 pub struct Standing {
     pub phase: Phase,
     pub idle: u32,

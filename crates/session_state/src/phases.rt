@@ -5,6 +5,7 @@ ghost use Rattle.session_state.specs.Phases.{is_valid_phase, counts_fit, is_vali
 use crate::{MOST_IDLE, MOST_SLEEP, MOST_TRIES, MOST_WRONG, Phase, Standing};
 
 // Whether lock and sleep go together.
+#[tactic(auto, unfolding(octets::specs::Choice::pick))]
 fn is_valid_phase(phase: Phase) -> bool
     ensures { result ≡ is_valid_phase phase }
 {
@@ -23,6 +24,7 @@ fn is_valid_phase(phase: Phase) -> bool
 }
 
 // Whether the count and the total of wrong passwords go together.
+#[tactic(auto, unfolding(crate::specs::Phases::counts_fit, octets::specs::Choice::pick))]
 fn counts_fit(wrong: u8, tries: u32) -> bool
     ensures { result ≡ counts_fit wrong tries }
 {
@@ -36,6 +38,7 @@ fn counts_fit(wrong: u8, tries: u32) -> bool
 }
 
 // Whether a record may say that a session stands so, on a part whose last rate has the given id.
+#[tactic(auto, unfolding(crate::specs::Phases::is_valid, octets::specs::Choice::pick))]
 pub fn is_valid(last_rate: u8, standing: Standing) -> bool
     ensures { result ≡ is_valid last_rate standing }
 {

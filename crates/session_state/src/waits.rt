@@ -9,6 +9,7 @@ use crate::{Passed, Phase, Standing};
 const IDLE_LIMIT: u32 = 10000;
 
 // Whether idle time reaches the limit with so much more. The sum may need more than 32 bits.
+#[tactic(auto, unfolding(crate::specs::Waits::is_idle_too_long))]
 fn is_idle_too_long(standing: Standing, rest: u32) -> bool
     ensures { result ≡ is_idle_too_long standing rest }
 {
@@ -29,6 +30,7 @@ fn moved_to(standing: Standing, phase: Phase, idle: u32) -> Standing
 }
 
 // The rest of a wait is idle time: in this phase below the limit, and from the limit on as `over` says.
+#[tactic(auto, unfolding(octets::specs::Choice::pick))]
 fn idled(standing: Standing, phase: Phase, rest: u32, over: Passed) -> Passed
     ensures { result ≡ pick (is_idle_too_long standing rest) over (heard (moved_to standing phase (standing.idle + rest))) }
 {
@@ -41,6 +43,7 @@ fn idled(standing: Standing, phase: Phase, rest: u32, over: Passed) -> Passed
     }
 }
 
+#[tactic(auto, unfolding(crate::specs::Waits::detect_idles))]
 fn detect_idles(standing: Standing, rest: u32) -> Passed
     ensures { result ≡ detect_idles standing rest }
 {
@@ -51,6 +54,7 @@ fn detect_idles(standing: Standing, rest: u32) -> Passed
     idled(standing, Phase::Detect, rest, over)
 }
 
+#[tactic(auto, unfolding(crate::specs::Waits::command_idles))]
 fn command_idles(standing: Standing, unlocked: bool, rest: u32) -> Passed
     ensures { result ≡ command_idles standing unlocked rest }
 {
@@ -67,6 +71,7 @@ fn command_idles(standing: Standing, unlocked: bool, rest: u32) -> Passed
 }
 
 // How a session stands after a wait of so many milliseconds. The packet that came then is heard, or it is dropped.
+#[tactic(auto, unfolding(crate::specs::Waits::pass_time, octets::specs::Choice::pick))]
 pub fn pass_time(standing: Standing, wait: u32) -> Passed
     ensures { result ≡ pass_time standing wait }
 {

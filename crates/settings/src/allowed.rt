@@ -5,6 +5,7 @@ ghost use Rattle.settings.specs.Values.{is_allowed};
 use crate::Shown;
 
 // Whether reset mode, alert and settings protection have values that 01 names; any readout is kept.
+#[tactic(auto, unfolding(crate::specs::Values::is_allowed, octets::specs::Choice::pick))]
 pub fn are_allowed(shown: Shown) -> bool
     ensures { result ≡ is_allowed shown }
 {

@@ -6,6 +6,7 @@ use crate::{
     CHECKSUM_AT, Checked, Form, Forms, Found, IMAGE_SIZE, Refusal, VALUES_AT, places, table,
 };
 
+#[tactic(auto, unfolding(crate::specs::Reader::checksum_differs))]
 fn checksum_differs(image: &[u8]) -> bool
     requires { length image.now ≡ 1024 }
     ensures { result ≡ checksum_differs image.now }
@@ -14,6 +15,7 @@ fn checksum_differs(image: &[u8]) -> bool
 }
 
 // Whether an image begins with the form's number and its count of entries.
+#[tactic(auto, unfolding(crate::specs::Reader::is_form, octets::specs::Choice::pick))]
 fn is_form(form: Form, image: &[u8]) -> bool
     ensures { result ≡ is_form form image.now }
 {
@@ -23,6 +25,7 @@ fn is_form(form: Form, image: &[u8]) -> bool
     octets::number16_at(image, 2) == places::entries_of(form) as u16
 }
 
+#[tactic(auto, unfolding(crate::specs::Reader::found_in, octets::specs::Choice::pick))]
 fn find_form(forms: Forms, image: &[u8]) -> Found
     ensures { result ≡ found_in forms image.now }
 {
@@ -61,6 +64,7 @@ fn filler_differs(form: Form, image: &[u8]) -> bool
 }
 
 // Looks at body 3: a value that is not allowed, or a last byte that is not 0.
+#[tactic(auto, using(crate::proofs::BodyLaws::values_there), unfolding(octets::specs::Choice::pick, crate::specs::Values::is_allowed, crate::specs::Bodies::shown_in, crate::specs::Reader::value_not_allowed))]
 fn value_not_allowed(form: Form, image: &[u8]) -> bool
     ensures { result ≡ value_not_allowed form image.now }
 {
@@ -78,6 +82,7 @@ fn value_not_allowed(form: Form, image: &[u8]) -> bool
 }
 
 // Checks an image of a form.
+#[tactic(auto, using(crate::proofs::LayoutLaws::count_is_few, crate::proofs::ReaderLaws::differing_entry_there), unfolding(crate::specs::Reader::checked_in, octets::specs::Choice::pick))]
 fn check_form(form: Form, image: &[u8]) -> Checked
     requires { length image.now ≡ 1024 }
     ensures { result ≡ checked_in form image.now }
@@ -96,6 +101,7 @@ fn check_form(form: Form, image: &[u8]) -> Checked
 }
 
 // Checks an image that is not blank.
+#[tactic(auto, unfolding(crate::specs::Reader::checked_written, octets::specs::Choice::pick))]
 fn check_written(forms: Forms, image: &[u8]) -> Checked
     requires { length image.now ≡ 1024 }
     ensures { result ≡ checked_written forms image.now }
@@ -111,6 +117,7 @@ fn check_written(forms: Forms, image: &[u8]) -> Checked
 }
 
 // Checks an image, of which only some forms are taken.
+#[tactic(auto, unfolding(crate::specs::Reader::checked_of, octets::specs::Choice::pick))]
 pub(crate) fn check(forms: Forms, image: &[u8]) -> Checked
     ensures { result ≡ checked_of forms image.now }
 {

@@ -12,6 +12,7 @@ use crate::{
 };
 
 // What bodies 3, 4 and 5 say.
+#[tactic(auto, unfolding(crate::specs::Bodies::shown_in, crate::specs::Layout::offset_of, crate::specs::Layout::sum_of))]
 fn shown_in(fields: &[u8]) -> Shown
     ensures { result ≡ shown_in form1 (replicate 52 0 ++ fields.now) }
 {
@@ -62,6 +63,7 @@ fn protection_in(fields: &[u8]) -> [u8; 32]
 }
 
 // Whether fields may have so many bytes: those of an MSPM0, or of the larger part.
+#[tactic(auto, unfolding(crate::specs::Kept::is_fields_size, octets::specs::Choice::pick))]
 fn is_fields_size(size: usize) -> bool
     ensures { result ≡ is_fields_size size }
 {
@@ -73,6 +75,7 @@ fn is_fields_size(size: usize) -> bool
 
 // What a session keeps of fields, of either part. Bytes of another size say none. Each body is read here alone: a second place that reads
 // them would keep the compiler from reading a record where it lies.
+#[tactic(auto, using(crate::proofs::KeptLaws::least_fields, crate::proofs::KeptLaws::no_fields, crate::proofs::KeptLaws::kept_by_bodies))]
 pub fn read_kept(fields: &[u8]) -> Kept
     ensures { result ≡ kept_read fields.now }
 {
@@ -110,6 +113,7 @@ fn narrowed(kept: Kept) -> Settings
 }
 
 // The settings that some fields say. Bytes of another size say none.
+#[tactic(auto, using(crate::proofs::KeptLaws::narrowed_back), unfolding(crate::specs::Fields::fields_read, crate::specs::Layout::offset_of, crate::specs::Layout::sum_of, octets::specs::Choice::pick))]
 pub fn read_fields(fields: &[u8]) -> Settings
     ensures { result ≡ fields_read form1 fields.now }
 {

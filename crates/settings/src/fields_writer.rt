@@ -10,6 +10,7 @@ use crate::{
 };
 
 // Bodies 3 to 5: six bytes, then three numbers of four.
+#[tactic(auto, unfolding(octets::specs::Number::bytes_of))]
 fn shown_of(shown: Shown) -> [u8; 18]
     ensures { result ≡ values_of shown ++ numbers_of shown }
 {
@@ -25,6 +26,7 @@ fn shown_of(shown: Shown) -> [u8; 18]
 }
 
 // Bodies 1 to 5, one after the other.
+#[tactic(auto, using(crate::proofs::BodyLaws::five_joined))]
 fn first_five(password: [u8; 32], reset_password: [u8; 16], shown: [u8; 18]) -> [u8; 66]
     ensures { result ≡ password ++ (reset_password ++ shown) }
 {

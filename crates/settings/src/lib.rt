@@ -1,4 +1,6 @@
 // The settings of a board: as values, as the fields of an image, and as the image whole, read and written by one layout for each form.
+#![tactic(auto)]
+
 mod allowed;
 mod checks;
 mod fields_reader;
@@ -19,7 +21,7 @@ pub use reader::{accepts, read, read_settings};
 pub use writer::{reseal, write};
 
 // What may be shown of the settings: raw numbers, as they stand in bodies 3, 4 and 5.
-#[derive(Drop)]
+#[derive(Clone, Copy)]
 pub struct Shown {
     pub reset_mode: u8,
     pub alert: u8,
@@ -31,7 +33,7 @@ pub struct Shown {
 }
 
 // The settings. The two passwords stand apart from all that may be shown.
-#[derive(Drop)]
+#[derive(Clone, Copy)]
 pub struct Settings {
     pub shown: Shown,
     pub protection: [u8; 8],
@@ -40,7 +42,7 @@ pub struct Settings {
 }
 
 // What a session keeps of them, on either part: with protection for as many sectors as the larger one has.
-#[derive(Drop)]
+#[derive(Clone, Copy)]
 pub struct Kept {
     pub shown: Shown,
     pub protection: [u8; 32],
@@ -49,14 +51,14 @@ pub struct Kept {
 }
 
 // The forms of an image: 01's, and the one with a name.
-#[derive(Drop)]
+#[derive(Clone, Copy)]
 pub enum Form {
     One,
     Two,
 }
 
 // What an image holds: the settings, and beside them its form and a name.
-#[derive(Drop)]
+#[derive(Clone, Copy)]
 pub struct Contents {
     pub form: Form,
     pub settings: Settings,
@@ -96,7 +98,7 @@ pub const IMAGE_SIZE: usize = 1024;
 pub const CHECKSUM_AT: usize = 1020;
 
 // Why an image is refused. An entry is told by its number, counted from 1.
-#[derive(Drop)]
+#[derive(Clone, Copy)]
 pub enum Refusal {
     SizeWrong,
     ChecksumDiffers,

@@ -25,6 +25,7 @@ fn six_in(form: Form, image: &[u8]) -> [u8; 74]
 }
 
 // Moves an image that was found to be written in a form: the bodies are not looked into, and a name wants a place in the other form.
+#[tactic(auto, using(crate::proofs::MoveLaws::put_as_written, crate::proofs::MoveLaws::named_as_written))]
 fn move_written(form: Form, to: Form, image: &mut [u8]) -> MoveAnswer
     requires { (length image.old ≡ 1024) × (value_not_allowed form image.old ≡ false) }
     ensures { move_left (move_numbered result) image.new ≡ moved_by (write_of (in_form to (contents_in form image.old)) image.old) }
@@ -39,6 +40,7 @@ fn move_written(form: Form, to: Form, image: &mut [u8]) -> MoveAnswer
 }
 
 // Moves an image of the form that is taken, or refuses and leaves every byte. A blank one stays as it is.
+#[tactic(auto, unfolding(crate::specs::Moves::move_of))]
 fn move_to(from: Forms, to: Form, image: &mut [u8]) -> MoveAnswer
     ensures { move_left (move_numbered result) image.new ≡ move_of from to image.old }
 {

@@ -52,6 +52,7 @@ fn lengths(form: Form) -> [u8; 7]
     }
 }
 
+#[tactic(auto, unfolding(crate::specs::Layout::offset_of, crate::specs::Layout::sum_of))]
 fn offsets(form: Form) -> [u8; 7]
     ensures { result ≡ seven_of (offset_of (layout_of form)) }
 {
@@ -81,6 +82,7 @@ fn entry_field(form: Form, entry: usize, field: usize) -> u16
 }
 
 // The number at a place of the table: the form, the count, then four of each entry.
+#[tactic(auto, using(crate::proofs::LayoutLaws::table_at), unfolding(crate::specs::Layout::table_of))]
 pub(crate) fn table_number(form: Form, place: usize) -> u16
     requires { place < 2 + 4 * count_of (layout_of form) }
     ensures { result ≡ get_or (table_of (layout_of form)) place 0 }

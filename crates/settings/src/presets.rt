@@ -80,6 +80,7 @@ pub fn none_kept() -> Kept
 }
 
 // The name of an image that has none.
+#[tactic(auto, unfolding(crate::specs::Values::no_name))]
 pub(crate) fn no_name() -> [u8; 64]
     ensures { result ≡ no_name }
 {

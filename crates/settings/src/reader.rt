@@ -12,6 +12,7 @@ use crate::{
     Settings, SettingsReading, checks, fields_reader, places, presets,
 };
 
+#[tactic(auto, using(crate::proofs::BodyLaws::fields_there))]
 fn settings_in(form: Form, image: &[u8]) -> Settings
     requires { length image.now ≡ 1024 }
     ensures { result ≡ settings_in (layout_of form) image.now }
@@ -30,6 +31,7 @@ fn last_body(image: &[u8]) -> [u8; 64]
 }
 
 // The name that an image says; one of form 1 says none.
+#[tactic(auto, unfolding(crate::specs::Layout::offset_of, crate::specs::Layout::sum_of))]
 pub(crate) fn name_in(form: Form, image: &[u8]) -> [u8; 64]
     requires { length image.now ≡ 1024 }
     ensures { result ≡ name_in form image.now }
@@ -55,6 +57,7 @@ fn contents_in(form: Form, image: &[u8]) -> Contents
 }
 
 // Reads an image: the first refusal that applies, or all that it holds.
+#[tactic(auto, unfolding(crate::specs::Reader::read_of))]
 pub fn read(image: &[u8]) -> Reading
     ensures { read_told result ≡ read_of image.now }
 {
@@ -76,6 +79,7 @@ pub fn read(image: &[u8]) -> Reading
 }
 
 // What a session keeps of an image of a form.
+#[tactic(auto, using(crate::proofs::BodyLaws::kept_there))]
 fn kept_in(form: Form, image: &[u8]) -> Kept
     requires { length image.now ≡ 1024 }
     ensures { result ≡ kept_of (settings_in (layout_of form) image.now) }
@@ -84,6 +88,7 @@ fn kept_in(form: Form, image: &[u8]) -> Kept
 }
 
 // Reads of an image what a session takes: the settings, without form and name.
+#[tactic(auto, unfolding(crate::specs::Reader::read_of))]
 pub fn read_settings(image: &[u8]) -> SettingsReading
     ensures { settings_told result ≡ settings_only (read_of image.now) }
 {
@@ -105,6 +110,7 @@ pub fn read_settings(image: &[u8]) -> SettingsReading
 }
 
 // Whether the reader accepts an image.
+#[tactic(auto, unfolding(crate::specs::Reader::read_of, crate::specs::Reader::is_accepted))]
 pub fn accepts(image: &[u8]) -> bool
     ensures { result ≡ is_accepted image.now }
 {

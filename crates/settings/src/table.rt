@@ -7,6 +7,7 @@ ghost use Rattle.settings.specs.Entries.{differing_entry};
 use crate::{Form, places};
 
 // Stores the table of a form from the start on, as far as there is room.
+#[tactic(auto, using(crate::proofs::LayoutLaws::count_is_few, crate::proofs::TableLaws::length_table, crate::proofs::TableLaws::put_next), unfolding(crate::specs::Layout::pairs_of))]
 pub(crate) fn put_table(form: Form, image: &mut [u8])
     ensures { image.new ≡ sets image.old 0 (pairs_of (table_of (layout_of form))) }
 {
@@ -18,6 +19,7 @@ pub(crate) fn put_table(form: Form, image: &mut [u8])
 }
 
 // The number of the first entry that differs from the form's table, counted from 1; 0 where none does.
+#[tactic(auto, unfolding(crate::specs::Entries::differing_entry, crate::specs::Entries::entry_differs, crate::specs::Entries::field_differs))]
 pub(crate) fn differing_entry(form: Form, image: &[u8]) -> usize
     ensures { result ≡ differing_entry (layout_of form) image.now }
 {

@@ -34,6 +34,7 @@ fn put_name(form: Form, image: &mut [u8], name: &[u8])
 }
 
 // The bodies that the form has, from where its table ends: the six, and a name.
+#[tactic(auto, using(crate::proofs::BodyLaws::name_joined))]
 fn put_bodies(form: Form, image: &mut [u8], six: &[u8], name: &[u8])
     requires { length six.now ≡ 74 }
     ensures { image.new ≡ sets image.old (bodies_at form) (six.now ++ name_body form name.now) }
@@ -43,6 +44,7 @@ fn put_bodies(form: Form, image: &mut [u8], six: &[u8], name: &[u8])
 }
 
 // All that the checksum is of.
+#[tactic(auto, using(crate::proofs::WriterLaws::front_joined))]
 fn put_front(form: Form, image: &mut [u8], six: &[u8], name: &[u8])
     requires { (length image.old ≡ 1024) × (length six.now ≡ 74) × (length name.now ≡ 64) }
     ensures { image.new ≡ sets image.old 0 (pairs_of (table_of (layout_of form)) ++ ((six.now ++ name_body form name.now) ++ filler_of form)) }
@@ -61,6 +63,7 @@ fn put_checksum(image: &mut [u8])
 }
 
 // Whether the form has a place for the name: form 1 has none.
+#[tactic(auto, unfolding(crate::specs::Writer::name_fits))]
 pub(crate) fn name_fits(form: Form, name: &[u8]) -> bool
     ensures { result ≡ name_fits form name.now }
 {
@@ -71,6 +74,7 @@ pub(crate) fn name_fits(form: Form, name: &[u8]) -> bool
 }
 
 // Makes the image of six bodies and a name, in a form.
+#[tactic(auto, using(crate::proofs::WriterLaws::length_front, crate::proofs::WriterLaws::sealed_made))]
 pub(crate) fn put_image(form: Form, image: &mut [u8], six: &[u8], name: &[u8])
     requires { (length image.old ≡ 1024) × (length six.now ≡ 74) × (length name.now ≡ 64) }
     ensures { image.new ≡ sealed (pairs_of (table_of (layout_of form)) ++ ((six.now ++ name_body form name.now) ++ filler_of form)) }
@@ -80,6 +84,7 @@ pub(crate) fn put_image(form: Form, image: &mut [u8], six: &[u8], name: &[u8])
 }
 
 // Writes the image of some contents into a lent area, in their form, or refuses and leaves every byte.
+#[tactic(auto, unfolding(crate::specs::Writer::write_of, octets::specs::Choice::pick, crate::specs::Image::image_of))]
 pub fn write(contents: Contents, image: &mut [u8]) -> WriteAnswer
     ensures { write_left (write_number result) image.new ≡ write_of contents image.old }
 {
@@ -101,6 +106,7 @@ pub fn write(contents: Contents, image: &mut [u8]) -> WriteAnswer
 }
 
 // Puts table, filler and checksum of form 1 around the bodies that stand in an image, whatever they say. One of another size is left.
+#[tactic(auto, using(crate::proofs::WriterLaws::resealed_made, crate::proofs::WriterLaws::resealed_size, crate::proofs::WriterLaws::sealed_made), unfolding(crate::specs::Image::resealed, octets::specs::Choice::pick))]
 pub fn reseal(image: &mut [u8])
     ensures { image.new ≡ resealed image.old }
 {

@@ -7,6 +7,7 @@ ghost use Rattle.settings_large.specs.Reader.{filler_differs, value_not_allowed,
 use crate::{BODIES_AT, FILLER_AT, HALF, IMAGE_SIZE, table};
 use settings::{CHECKSUM_AT, Checked, Form, KEPT_SIZE, Refusal};
 
+#[tactic(auto, unfolding(settings::specs::Reader::checksum_differs))]
 fn checksum_differs(image: &[u8]) -> bool
     requires { length image.now ≡ 2048 }
     ensures { result ≡ checksum_differs image.now }
@@ -15,6 +16,7 @@ fn checksum_differs(image: &[u8]) -> bool
 }
 
 // Whether an image begins with form 2 and count 7.
+#[tactic(auto, unfolding(settings::specs::Reader::is_form, octets::specs::Choice::pick))]
 fn is_form_2(image: &[u8]) -> bool
     ensures { result ≡ is_form Two image.now }
 {
@@ -39,6 +41,7 @@ fn filler_differs(image: &[u8]) -> bool
 }
 
 // Looks at body 3: a value that is not allowed, or a last byte that is not 0.
+#[tactic(auto, using(crate::proofs::LargeLaws::kept_there, crate::proofs::LargeLaws::zero_there), unfolding(octets::specs::Choice::pick, crate::specs::Contents::kept_in, crate::specs::Reader::value_not_allowed))]
 fn value_not_allowed(image: &[u8]) -> bool
     requires { length image.now ≡ 2048 }
     ensures { result ≡ value_not_allowed image.now }
@@ -52,6 +55,7 @@ fn value_not_allowed(image: &[u8]) -> bool
 }
 
 // Checks an image that has this part's form.
+#[tactic(auto, using(settings::proofs::ReaderLaws::differing_entry_there), unfolding(crate::specs::Reader::checked_in, octets::specs::Choice::pick))]
 fn check_form(image: &[u8]) -> Checked
     requires { length image.now ≡ 2048 }
     ensures { result ≡ checked_in image.now }
@@ -70,6 +74,7 @@ fn check_form(image: &[u8]) -> Checked
 }
 
 // Checks an image that is not blank.
+#[tactic(auto, unfolding(crate::specs::Reader::checked_written, octets::specs::Choice::pick))]
 fn check_written(image: &[u8]) -> Checked
     requires { length image.now ≡ 2048 }
     ensures { result ≡ checked_written image.now }
@@ -84,6 +89,7 @@ fn check_written(image: &[u8]) -> Checked
 }
 
 // Checks an image. It is blank where both its halves are.
+#[tactic(auto, unfolding(crate::specs::Reader::checked_of, octets::specs::Choice::pick))]
 pub(crate) fn check(image: &[u8]) -> Checked
     ensures { result ≡ checked_of image.now }
 {

@@ -1,4 +1,6 @@
 // The settings image of the larger part: one sector, with a form 2 of its own in the first half and 0xFF in the second.
+#![tactic(auto)]
+
 mod checks;
 mod presets;
 mod reader;

@@ -6,6 +6,7 @@ use crate::LargeContents;
 use settings::{Form, NAME_SIZE};
 
 // The contents of a blank image, which counts as form 2.
+#[tactic(auto, unfolding(settings::specs::Values::no_name))]
 pub(crate) fn blank_contents() -> LargeContents
     ensures { result ≡ blank_contents }
 {
@@ -17,6 +18,7 @@ pub(crate) fn blank_contents() -> LargeContents
     }
 }
 
+#[tactic(auto, unfolding(settings::specs::Values::no_name))]
 pub(crate) fn no_contents() -> LargeContents
     ensures { result ≡ no_contents }
 {

@@ -8,6 +8,7 @@ ghost use Rattle.settings_large.specs.Reader.{read_told, settings_only, read_of}
 use crate::{BODIES_AT, LargeContents, LargeReading, NAME_AT, checks, presets};
 use settings::{Checked, Form, KEPT_SIZE, Kept, NAME_SIZE, ReadAnswer, SettingsReading};
 
+#[tactic(auto, using(crate::proofs::LargeLaws::kept_there))]
 fn kept_in(image: &[u8]) -> Kept
     requires { length image.now ≡ 2048 }
     ensures { result ≡ kept_in image.now }
@@ -25,6 +26,7 @@ fn name_in(image: &[u8]) -> [u8; 64]
 }
 
 // What a written image holds.
+#[tactic(auto, unfolding(settings::specs::Layout::offset_of, settings::specs::Layout::sum_of))]
 fn contents_in(image: &[u8]) -> LargeContents
     requires { length image.now ≡ 2048 }
     ensures { result ≡ contents_in image.now }
@@ -39,6 +41,7 @@ fn contents_in(image: &[u8]) -> LargeContents
 }
 
 // Reads an image: the first refusal that applies, or all that it holds.
+#[tactic(auto, using(crate::proofs::PassingLaws::written_has_size), unfolding(crate::specs::Reader::read_of))]
 pub fn read(image: &[u8]) -> LargeReading
     ensures { read_told result ≡ read_of image.now }
 {
@@ -60,6 +63,7 @@ pub fn read(image: &[u8]) -> LargeReading
 }
 
 // Reads of an image what a session takes: the settings, without form and name.
+#[tactic(auto, using(crate::proofs::PassingLaws::written_has_size), unfolding(crate::specs::Reader::read_of))]
 pub fn read_settings(image: &[u8]) -> SettingsReading
     ensures { settings_told result ≡ settings_only (read_of image.now) }
 {

@@ -14,6 +14,7 @@ use crate::{
 use settings::{CHECKSUM_AT, Form, Kept};
 
 // The bodies, from where the table ends.
+#[tactic(auto, using(octets::proofs::StoreLaws::sets_join, settings::proofs::BodyLaws::length_kept))]
 fn put_bodies(image: &mut [u8], kept: Kept, name: &[u8])
     ensures { image.new ≡ sets image.old 60 (kept_bodies kept ++ name.now) }
 {
@@ -21,6 +22,7 @@ fn put_bodies(image: &mut [u8], kept: Kept, name: &[u8])
     octets::put(image, NAME_AT, name);
 }
 
+#[tactic(auto, using(crate::proofs::LargeLaws::filler_put))]
 fn put_filler(image: &mut [u8])
     requires { length image.old ≡ 2048 }
     ensures { image.new ≡ sets image.old 222 large_filler }
@@ -29,6 +31,7 @@ fn put_filler(image: &mut [u8])
 }
 
 // All that the checksum is of.
+#[tactic(auto, using(settings::proofs::BodyLaws::length_kept, crate::proofs::LargeLaws::front_joined))]
 fn put_front(image: &mut [u8], kept: Kept, name: &[u8])
     requires { (length image.old ≡ 2048) × (length name.now ≡ 64) }
     ensures { image.new ≡ sets image.old 0 (front_with (kept_bodies kept) name.now) }
@@ -67,6 +70,7 @@ fn is_form_1(form: Form) -> bool
 }
 
 // Writes the image of some contents into a lent area, or refuses and leaves every byte.
+#[tactic(auto, unfolding(crate::specs::Writer::write_of, crate::specs::Image::image_of, octets::specs::Choice::pick))]
 pub fn write(contents: LargeContents, image: &mut [u8]) -> LargeWriteAnswer
     ensures { write_left (write_number result) image.new ≡ write_of contents image.old }
 {

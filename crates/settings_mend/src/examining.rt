@@ -8,6 +8,7 @@ use crate::Examined;
 use settings::IMAGE_SIZE;
 
 // Whether the first four bytes read form 2 and count 7.
+#[tactic(auto, unfolding(settings::specs::Reader::is_form, octets::specs::Choice::pick))]
 fn is_form_2(image: &[u8]) -> bool
     ensures { result ≡ is_form Two image.now }
 {
@@ -18,6 +19,7 @@ fn is_form_2(image: &[u8]) -> bool
 }
 
 // Looks at an image, and changes no byte of it.
+#[tactic(auto, unfolding(crate::specs::Examining::examined_of, octets::specs::Choice::pick))]
 pub fn examine(image: &[u8]) -> Examined
     ensures { result ≡ examined_of image.now }
 {

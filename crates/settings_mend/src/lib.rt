@@ -1,4 +1,6 @@
 // Mending a settings image of form 1 that the reader does not accept, as far as its bytes tell what they should be.
+#![tactic(auto)]
+
 mod examining;
 mod mending;
 

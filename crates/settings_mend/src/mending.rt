@@ -21,6 +21,7 @@ const FILLER_AT: usize = BODIES_AT + FIELDS_SIZE;
 const SUM_SIZE: usize = IMAGE_SIZE - CHECKSUM_AT;
 
 // A value, if it is at most the greatest that is allowed, or else the one of a blank board.
+#[tactic(auto, unfolding(crate::specs::Mending::allowed_or, octets::specs::Choice::pick))]
 fn allowed_or(value: u8, most: u8, blank: u8) -> u8
     ensures { result ≡ allowed_or value most blank }
 {
@@ -28,6 +29,7 @@ fn allowed_or(value: u8, most: u8, blank: u8) -> u8
 }
 
 // The values of body 3 that are not allowed become those of a blank board; the others are kept, any readout among them.
+#[tactic(auto, using(crate::proofs::MendLaws::values_put), unfolding(crate::specs::Mending::mended_values))]
 fn mend_values(values: &mut [u8])
     requires { length values.old ≡ 6 }
     ensures { values.new ≡ mended_values values.old }
@@ -39,6 +41,7 @@ fn mend_values(values: &mut [u8])
 }
 
 // Puts right what stands in the bodies, and then all that stands around them.
+#[tactic(auto, using(crate::proofs::MendLaws::put_around), unfolding(crate::specs::Mending::mended))]
 fn put_right(image: &mut [u8])
     requires { length image.old ≡ 1024 }
     ensures { image.new ≡ mended image.old }
@@ -48,6 +51,7 @@ fn put_right(image: &mut [u8])
 }
 
 // How many bytes are not the filler's: so many places differ from a filler that is right.
+#[tactic(auto, using(crate::proofs::MendLaws::filler_adds, crate::proofs::MendLaws::filler_counted, crate::proofs::MendLaws::none_left))]
 fn not_filler(bytes: &[u8]) -> usize
     ensures { result ≡ differing bytes.now (replicate (length bytes.now) 0xFF) }
 {
@@ -69,6 +73,7 @@ fn filler_changed(image: &[u8]) -> u16
 }
 
 // How many places of a part differ.
+#[tactic(auto, using(crate::proofs::MendLaws::few_changed))]
 fn changed(at: usize, count: usize, before: &[u8], after: &[u8]) -> u16
     requires { count ≤ 1024 }
     ensures { result ≡ changed at count before.now after.now }
@@ -117,6 +122,7 @@ fn changes(front: &[u8], filler: u16, sum: &[u8], image: &[u8]) -> Changes
 }
 
 // Mends an image of the right size, and tells what was changed. Its filler is counted first; of all else that can change, the bytes are kept.
+#[tactic(auto, using(crate::proofs::MendLaws::counted), unfolding(crate::specs::Mending::changes_of))]
 fn mend_damaged(image: &mut [u8]) -> Changes
     requires { length image.old ≡ 1024 }
     ensures { (result ≡ changes_of image.old (mended image.old)) × (image.new ≡ mended image.old) }
@@ -129,6 +135,7 @@ fn mend_damaged(image: &mut [u8]) -> Changes
 }
 
 // Mends an image where it is damaged, or refuses. One that is refused or accepted keeps every byte.
+#[tactic(auto, using(crate::proofs::MendLaws::damaged_has_size), unfolding(crate::specs::Mending::mend_of))]
 pub fn mend(image: &mut [u8]) -> MendAnswer
     ensures { mend_left (mend_told result) image.new ≡ mend_of image.old }
 {

@@ -4,6 +4,7 @@ ghost use Rattle.std.specs.Prelude.{◌≤◌};
 use crate::text;
 use session::CallAnswer;
 use session_state::{Phase, Standing};
+use std::io;
 
 // The place of its name among the names of phases.
 fn place_of(phase: Phase) -> u8 {
@@ -31,15 +32,18 @@ fn sleep_of(phase: Phase) -> u32 {
     }
 }
 
-pub(crate) fn show_standing(standing: Standing) {
+pub(crate) fn show_standing(rt: &impl Print, standing: Standing) -> io::Result<()> {
     let phase = standing.phase;
     let names: &[u8] = b"  detect    locked    unlocked  standby   ended     disabled";
-    text::say(octets::part_of(names, 10 * (place_of(phase) as usize), 10));
-    text::say_number(sleep_of(phase) as u64);
-    text::say_number(standing.idle as u64);
-    text::say_number(standing.wrong as u64);
-    text::say_number(standing.tries as u64);
-    text::say_number(standing.rate as u64);
+    text::say(
+        rt,
+        octets::part_of(names, 10 * (place_of(phase) as usize), 10),
+    )?;
+    text::say_number(rt, sleep_of(phase) as u64)?;
+    text::say_number(rt, standing.idle as u64)?;
+    text::say_number(rt, standing.wrong as u64)?;
+    text::say_number(rt, standing.tries as u64)?;
+    text::say_number(rt, standing.rate as u64)
 }
 
 // 1 for a byte 0xFF, else 0.
@@ -58,20 +62,20 @@ fn erased(bytes: &[u8]) -> u64 {
     count
 }
 
-pub(crate) fn show_flash(main: &[u8], image: &[u8]) {
-    text::say_number(erased(main));
-    text::say_number(erased(image));
+pub(crate) fn show_flash(rt: &impl Print, main: &[u8], image: &[u8]) -> io::Result<()> {
+    text::say_number(rt, erased(main))?;
+    text::say_number(rt, erased(image))
 }
 
 // The reply's size and its first bytes; no call of a script is refused.
-pub(crate) fn show_answer(answer: CallAnswer, area: &[u8]) {
+pub(crate) fn show_answer(rt: &impl Print, answer: CallAnswer, area: &[u8]) -> io::Result<()> {
     let CallAnswer::Done { size, burn } = answer else {
-        text::say(b" refused");
-        return;
+        return text::say(rt, b" refused");
     };
-    text::say_number(size as u64);
-    text::say_bytes(octets::part_of(area, 0, size));
+    text::say_number(rt, size as u64)?;
+    text::say_bytes(rt, octets::part_of(area, 0, size))?;
     if burn {
-        text::say(b", burns its fuse");
+        text::say(rt, b", burns its fuse")?;
     }
+    Ok(())
 }

@@ -3,18 +3,19 @@ ghost use Rattle.std.specs.Prelude.{◌<◌};
 
 use crate::text;
 use settings::{CHECKSUM_AT, Contents, Form, Settings, Shown};
+use std::io;
 
-fn show_bytes(names: &[u8], row: u8, bytes: &[u8]) {
-    text::say_name(names, row);
-    text::say_bytes(bytes);
+fn show_bytes(rt: &impl Print, names: &[u8], row: u8, bytes: &[u8]) -> io::Result<()> {
+    text::say_name(rt, names, row)?;
+    text::say_bytes(rt, bytes)
 }
 
-fn show_number(names: &[u8], row: u8, number: u32) {
-    text::say_name(names, row);
-    text::say_number(number as u64);
+fn show_number(rt: &impl Print, names: &[u8], row: u8, number: u32) -> io::Result<()> {
+    text::say_name(rt, names, row)?;
+    text::say_number(rt, number as u64)
 }
 
-fn show_values(shown: Shown) {
+fn show_values(rt: &impl Print, shown: Shown) -> io::Result<()> {
     let names: &[u8] = b"
            reset mode:
                 alert:
@@ -23,64 +24,71 @@ fn show_values(shown: Shown) {
                BCR id:
                BSL id:
       version pointer:";
-    show_number(names, 0, shown.reset_mode as u32);
-    show_number(names, 1, shown.alert as u32);
-    show_number(names, 2, shown.readout as u32);
-    show_number(names, 3, shown.settings_protected as u32);
-    show_number(names, 4, shown.bcr_id);
-    show_number(names, 5, shown.bsl_id);
-    show_number(names, 6, shown.version_pointer);
+    show_number(rt, names, 0, shown.reset_mode as u32)?;
+    show_number(rt, names, 1, shown.alert as u32)?;
+    show_number(rt, names, 2, shown.readout as u32)?;
+    show_number(rt, names, 3, shown.settings_protected as u32)?;
+    show_number(rt, names, 4, shown.bcr_id)?;
+    show_number(rt, names, 5, shown.bsl_id)?;
+    show_number(rt, names, 6, shown.version_pointer)
 }
 
-fn show_settings(settings: Settings) {
+fn show_settings(rt: &impl Print, settings: Settings) -> io::Result<()> {
     let names: &[u8] = b"
              password:
        reset password:
     protected sectors:";
-    show_bytes(names, 0, &settings.password);
-    show_bytes(names, 1, &settings.reset_password);
-    show_values(settings.shown);
-    show_bytes(names, 2, &settings.protection);
+    show_bytes(rt, names, 0, &settings.password)?;
+    show_bytes(rt, names, 1, &settings.reset_password)?;
+    show_values(rt, settings.shown)?;
+    show_bytes(rt, names, 2, &settings.protection)
 }
 
-fn show_form(names: &[u8], row: u8, form: Form) {
+fn show_form(rt: &impl Print, names: &[u8], row: u8, form: Form) -> io::Result<()> {
     match form {
-        Form::One => show_number(names, row, 1),
-        Form::Two => show_number(names, row, 2),
+        Form::One => show_number(rt, names, row, 1),
+        Form::Two => show_number(rt, names, row, 2),
     }
 }
 
-pub(crate) fn show_contents(contents: Contents) {
+pub(crate) fn show_contents(rt: &impl Print, contents: Contents) -> io::Result<()> {
     let names: &[u8] = b"
                  form:
                  name:";
     let form = contents.form;
-    show_form(names, 0, form);
-    show_settings(contents.settings);
-    show_bytes(names, 1, &contents.name);
+    show_form(rt, names, 0, form)?;
+    show_settings(rt, contents.settings)?;
+    show_bytes(rt, names, 1, &contents.name)
 }
 
-fn show_part(names: &[u8], row: u8, image: &[u8], at: usize, count: usize) {
-    show_bytes(names, row, octets::part_of(image, at, count));
+fn show_part(
+    rt: &impl Print,
+    names: &[u8],
+    row: u8,
+    image: &[u8],
+    at: usize,
+    count: usize,
+) -> io::Result<()> {
+    show_bytes(rt, names, row, octets::part_of(image, at, count))
 }
 
 // The bytes between the bodies and the checksum are counted where each is 0xFF.
-fn show_filler(image: &[u8], at: usize)
+fn show_filler(rt: &impl Print, image: &[u8], at: usize) -> io::Result<()>
     requires { at < 1020 }
 {
     let names: &[u8] = b"
       filler bytes FF:
              checksum:";
     let filler = octets::part_of(image, at, CHECKSUM_AT - at);
-    text::say_name(names, 0);
+    text::say_name(rt, names, 0)?;
     if octets::all_are(0xFF, filler) {
-        text::say_number(filler.len() as u64);
+        text::say_number(rt, filler.len() as u64)?;
     }
-    show_part(names, 1, image, CHECKSUM_AT, 4);
+    show_part(rt, names, 1, image, CHECKSUM_AT, 4)
 }
 
 // A row for each part: where it begins, and how many bytes it has.
-fn show_entries(image: &[u8]) {
+fn show_entries(rt: &impl Print, image: &[u8]) -> io::Result<()> {
     let names: &[u8] = b"
        form and count:
               entry 1:
@@ -89,16 +97,16 @@ fn show_entries(image: &[u8]) {
               entry 4:
               entry 5:
               entry 6:";
-    show_part(names, 0, image, 0, 4);
-    show_part(names, 1, image, 4, 8);
-    show_part(names, 2, image, 12, 8);
-    show_part(names, 3, image, 20, 8);
-    show_part(names, 4, image, 28, 8);
-    show_part(names, 5, image, 36, 8);
-    show_part(names, 6, image, 44, 8);
+    show_part(rt, names, 0, image, 0, 4)?;
+    show_part(rt, names, 1, image, 4, 8)?;
+    show_part(rt, names, 2, image, 12, 8)?;
+    show_part(rt, names, 3, image, 20, 8)?;
+    show_part(rt, names, 4, image, 28, 8)?;
+    show_part(rt, names, 5, image, 36, 8)?;
+    show_part(rt, names, 6, image, 44, 8)
 }
 
-fn show_bodies(image: &[u8], at: usize)
+fn show_bodies(rt: &impl Print, image: &[u8], at: usize) -> io::Result<()>
     requires { at < 1020 }
 {
     let names: &[u8] = b"
@@ -108,29 +116,29 @@ fn show_bodies(image: &[u8], at: usize)
                body 4:
                body 5:
                body 6:";
-    show_part(names, 0, image, at, 32);
-    show_part(names, 1, image, at + 32, 16);
-    show_part(names, 2, image, at + 48, 6);
-    show_part(names, 3, image, at + 54, 8);
-    show_part(names, 4, image, at + 62, 4);
-    show_part(names, 5, image, at + 66, 8);
+    show_part(rt, names, 0, image, at, 32)?;
+    show_part(rt, names, 1, image, at + 32, 16)?;
+    show_part(rt, names, 2, image, at + 48, 6)?;
+    show_part(rt, names, 3, image, at + 54, 8)?;
+    show_part(rt, names, 4, image, at + 62, 4)?;
+    show_part(rt, names, 5, image, at + 66, 8)
 }
 
 // An image of form 1.
-pub(crate) fn show_image(image: &[u8]) {
-    show_entries(image);
-    show_bodies(image, 52);
-    show_filler(image, 126);
+pub(crate) fn show_image(rt: &impl Print, image: &[u8]) -> io::Result<()> {
+    show_entries(rt, image)?;
+    show_bodies(rt, image, 52)?;
+    show_filler(rt, image, 126)
 }
 
 // An image of form 2.
-pub(crate) fn show_named_image(image: &[u8]) {
+pub(crate) fn show_named_image(rt: &impl Print, image: &[u8]) -> io::Result<()> {
     let names: &[u8] = b"
               entry 7:
                body 7:";
-    show_entries(image);
-    show_part(names, 0, image, 52, 8);
-    show_bodies(image, 60);
-    show_part(names, 1, image, 134, 64);
-    show_filler(image, 198);
+    show_entries(rt, image)?;
+    show_part(rt, names, 0, image, 52, 8)?;
+    show_bodies(rt, image, 60)?;
+    show_part(rt, names, 1, image, 134, 64)?;
+    show_filler(rt, image, 198)
 }

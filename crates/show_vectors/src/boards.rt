@@ -7,7 +7,7 @@ use settings::{Contents, Form, Shown};
 use settings_large::LargeContents;
 
 // Whose board a request is sent to.
-#[derive(Drop)]
+#[derive(Clone, Copy)]
 pub(crate) enum Board {
     Mspm0,
     Am13e230x,

@@ -3,6 +3,7 @@ ghost use Rattle.std.specs.Prelude.{◌≤◌, ◌+◌, min, length};
 
 use crate::boards::Board;
 use crate::pairs;
+use std::io;
 
 // Where the line that begins at a place ends.
 fn line_end(listing: &[u8], at: usize) -> usize
@@ -26,18 +27,20 @@ fn line(listing: &[u8], at: usize, end: usize) -> &[u8] {
 }
 
 // Sends each request of a listing to a board.
-pub(crate) fn show(board: Board, listing: &[u8]) {
+pub(crate) fn show(rt: &impl Print, board: Board, listing: &[u8]) -> io::Result<()> {
     let mut at = 0;
     while at < listing.len() {
         let request = line_end(listing, at);
         let reply = line_end(listing, request);
         let next = line_end(listing, reply);
         pairs::show(
+            rt,
             board,
             line(listing, at, request),
             line(listing, request, reply),
             line(listing, reply, next),
-        );
+        )?;
         at = next;
     }
+    Ok(())
 }

@@ -1,23 +1,26 @@
 // Plain text on standard output, and bytes in a text: a space, or the end of the line before, and two hexadecimal digits for each.
-use libc::STDOUT_FILENO;
+use std::io;
 
 // So many bytes of a reply are shown; no part's Info has more.
 const MOST_SHOWN: usize = 37;
 
-pub(crate) fn say(text: &[u8]) {
-    io::write_all(STDOUT_FILENO, text);
+pub(crate) fn say(rt: &impl Print, text: &[u8]) -> io::Result<()> {
+    rt.write_all(text)
 }
 
 // A number after its name.
-pub(crate) fn say_number(name: &[u8], number: usize) {
-    say(name);
-    io::print_decimal(STDOUT_FILENO, number as u64);
+pub(crate) fn say_number(rt: &impl Print, name: &[u8], number: usize) -> io::Result<()> {
+    say(rt, name)?;
+    print!(rt; "{}", number as u64)
 }
 
-pub(crate) fn say_bytes(bytes: &[u8]) {
+pub(crate) fn say_bytes(rt: &impl Print, bytes: &[u8]) -> io::Result<()> {
     let mut text = [0u8; 3 * MOST_SHOWN];
     octets::put_hex(&mut text, 0, bytes);
-    say(octets::part_of(&text, 0, 3 * octets::least(bytes.len(), MOST_SHOWN)));
+    say(
+        rt,
+        octets::part_of(&text, 0, 3 * octets::least(bytes.len(), MOST_SHOWN)),
+    )
 }
 
 // What a digit stands for, in capital or small letters.

@@ -1,11 +1,8 @@
 -- Each public function of each crate: its promise has one answer. The promise stands here as the function's contract has it.
 -- Where areas are lent to be written, an answer is what is returned, then what is left in each area, in the order of the parameters.
-use mathlib.Core.Path.{◌≡◌, refl, ap}
-use mathlib.Core.Bool.{Bool}
-use mathlib.Core.List.{List, []}
-use Prim.Native.Nat.{ℕ, ◌-◌, ◌/◌, min}
-use lib.ListN.{length, get_or, replicate}
-use lib.Seq.{sets}
+use Rattle.std.specs.Prelude.{◌≡◌, refl, Bool, List, [], ℕ, ◌-◌, ◌/◌, min, length, get_or, replicate}
+use Rattle.std.proofs.Common.{ap}
+use Rattle.std.proofs.lemmas.List.Edits.{sets}
 use Rattle.octets.specs.Number.{part, number_at, bytes_of, is_multiple}
 use Rattle.octets.specs.Alike.{all_are, are_same, differing}
 use Rattle.octets.specs.Hex.{hex_of}

@@ -169,8 +169,8 @@ module _ (part : Part) where
     unfolding serve_of
     served_same whole =
         ap₂ (answered (with_bits bits session) packet area judged)
-        (plan_same _ _ bits session.settings.protection before agree whole _ judged.effect)
-        (act_same _ _ bits session.settings.protection before agree whole _ packet judged.effect)
+        (plan_same _ session.settings.shown bits session.settings.protection before agree whole _ judged.effect)
+        (act_same _ session.settings.shown bits session.settings.protection before agree whole _ packet judged.effect)
 
     -- the answer, how the session stands, both images, the window and the reply area are the same; the bits are kept
     pub bits_beyond_main_have_no_effect : call_of part (with_bits bits session) before wait packet area ≡ left_with_bits bits (call_of part session before wait packet area)

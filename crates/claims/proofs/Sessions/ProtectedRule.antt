@@ -1,6 +1,6 @@
 -- T-04: "must refuse when any place they would touch is protected", and where none is, Range erase does not; of Program see WrittenRule.
-use mathlib.Core.Path.{◌≡◌, refl, sym, ap, ap₂, ◌∙◌}
-use mathlib.Core.Bool.{Bool, true, false, not, true≢false}
+use mathlib.Core.Path.{◌≡◌, refl, sym, ap, ◌∙◌}
+use mathlib.Core.Bool.{Bool, true, false, true≢false}
 use mathlib.Core.List.{List}
 use mathlib.Core.Logic.{by_cases}
 use Prim.Native.Nat.{ℕ, ◌+◌, ◌-◌, ◌/◌, ◌≤◌, ◌<◌}
@@ -15,11 +15,10 @@ use Rattle.parts.specs.declared.Part.{Part}
 use Rattle.flash.specs.Memory.{Memory}
 use Rattle.flash.specs.declared.Region.TheVariants.{Main}
 use Rattle.flash.specs.Protection.{is_protected, may_change, first_kept}
-use Rattle.flash.specs.Regions.{main_start, place_from, place_in, place_of}
+use Rattle.flash.specs.Regions.{main_start, place_from, place_of}
 use Rattle.flash.proofs.KeptLaws.{none_is_kept, protected_range_touches, open_range_touches_none}
 use Rattle.flash.proofs.RegionLaws.{main_is_located}
 use Rattle.session_act.specs.declared.Order.TheVariants.{EraseBetween}
-use Rattle.session_act.specs.declared.Planned.{Planned}
 use Rattle.session_act.specs.Plans.{tells, orders}
 use Rattle.session_act.specs.Erasing.{range_erase_at, range_erase}
 use Rattle.session_act.specs.Programming.{is_aligned, program_at, program}

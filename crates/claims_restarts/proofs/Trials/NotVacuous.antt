@@ -36,7 +36,7 @@ use Rattle.claims_restarts.specs.Cuts.{some_erased, cut_in_main}
 use Rattle.claims_restarts.specs.Boards.{fresh, port_one, port_other, is_over}
 use Rattle.claims_restarts.specs.Returning.{Roomy, Requested, Advised}
 use Rattle.claims_restarts.specs.FromC.{HasRecords, ReturningFromC}
-use Rattle.claims_restarts.specs.Trials.{starts, session, until_struck, after_struck, password_in_struck, first_sector, cut_history, left_of, last_unlocks, HalfErased}
+use Rattle.claims_restarts.specs.Trials.{starts, until_struck, after_struck, password_in_struck, first_sector, cut_history, left_of, last_unlocks, HalfErased}
 use Rattle.claims_restarts.proofs.SameBoard.{same_through}
 use Rattle.claims_restarts.proofs.Twins.{settings_size_lem}
 use Rattle.claims_restarts.proofs.Pairs.{cut_of_locked}
