@@ -38,6 +38,25 @@ pub one_digit : (rest : ℕ) → digits_within 1 rest ≡ 1
 unfolding digits_within
 one_digit rest = by_pick (λ (count : ℕ). count ≡ 1) (ltb rest 10) _ _ (λ y. refl) (λ n. refl)
 
+-- so many digits are counted, and what is left of ten makes the whole
+abbrev pub Counted : ℕ → ℕ → ℕ → Type 0
+Counted number rest count = digits_within 10 number + 1 ≡ count + digits_within (11 - count) rest
+
+module _ (number rest count : ℕ) where
+  pub counted_on : count < 10 → 10 ≤ rest → Counted number rest count → Counted number (rest / 10) (count + 1)
+  counted_on few h inv =
+      let e : 11 - count ≡ suc (10 - count) = omega arith in
+      let f : 11 - (count + 1) ≡ 10 - count = omega arith in
+      rw f (omega (arith, (rw e at inv), digits_go_on (10 - count) rest h))
+
+  pub last_counted : count < 10 → rest < 10 → Counted number rest count → count ≡ digits_within 10 number
+  last_counted few h inv =
+      let e : 11 - count ≡ suc (10 - count) = omega arith in
+      omega (arith, (rw e at inv), digits_stop (10 - count) rest h)
+
+  pub ten_counted : count ≡ 10 → Counted number rest count → count ≡ digits_within 10 number
+  ten_counted ten inv = omega (arith, (rw ten at inv), one_digit rest)
+
 -- the zeros before a number are dropped
 pub last_of_more : (most count number : ℕ) → count ≤ most → drop (most - count) (last_digits most number) ≡ last_digits count number
 unfolding last_digits

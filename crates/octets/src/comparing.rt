@@ -5,7 +5,7 @@ ghost use Rattle.octets.specs.Alike.{all_are, are_same, differing};
 use crate::reading;
 
 // Whether every byte is the given one.
-#[tactic(auto, unfolding(crate::specs::Choice::pick))]
+#[tactic(auto, using(crate::proofs::AlikeLaws::all_next, crate::proofs::AlikeLaws::all_stops, crate::proofs::AlikeLaws::all_passed), unfolding(crate::specs::Choice::pick))]
 pub fn all_are(value: u8, bytes: &[u8]) -> bool
     ensures { result ≡ all_are value bytes.now }
 {

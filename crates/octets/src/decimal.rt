@@ -9,6 +9,7 @@ use crate::storing;
 const MOST_DIGITS: usize = 10;
 
 // How many digits a number has.
+#[tactic(auto, using(crate::proofs::DecimalLaws::counted_on, crate::proofs::DecimalLaws::last_counted, crate::proofs::DecimalLaws::ten_counted))]
 pub fn digits_in(number: u32) -> usize
     ensures { result ≡ digits_in number }
 {
