@@ -21,7 +21,7 @@ pub enum Region {
 
 // The region that holds a range wholly, and how far from its start the range begins; 0 outside. Whether a place of the range is
 // protected, and the address of the first that is; 0 where none is. It has 64 bits, since a region's start and an offset may need more than 32.
-#[derive(Drop)]
+#[derive(Clone, Copy)]
 pub struct Place {
     pub region: Region,
     pub offset: usize,

@@ -21,7 +21,7 @@ pub struct Part {
 }
 
 // The part of source document 004.
-#[derive(Drop)]
+#[derive(Clone, Copy)]
 pub struct Mspm0;
 
 impl Mspm0 {
@@ -65,7 +65,7 @@ impl Mspm0 {
 }
 
 // The larger part, of source document 000.
-#[derive(Drop)]
+#[derive(Clone, Copy)]
 pub struct Am13e230x;
 
 impl Am13e230x {

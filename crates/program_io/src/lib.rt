@@ -1,4 +1,4 @@
-// What the programs share of reading and writing.
+// What the programs share of reading.
 #![tactic(auto)]
 
 ghost use Rattle.std.specs.Prelude.{◌≡◌, ◌<◌, ◌≤◌, length, take, IfOk};

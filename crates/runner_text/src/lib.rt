@@ -18,7 +18,7 @@ pub(crate) const MOST_ENTRIES: u16 = 64;
 pub const LINE_SIZE: usize = 5191;
 
 // What a script is: one that keeps the form, with so many entries, or one that breaks it.
-#[derive(Drop)]
+#[derive(Clone, Copy)]
 pub enum Script {
     Good { count: u8 },
     Bad,

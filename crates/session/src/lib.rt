@@ -30,14 +30,14 @@ pub enum StartAnswer {
 }
 
 // The answer, and the session that was started; beside a refusal stands one that every call refuses.
-#[derive(Drop)]
+#[derive(Clone, Copy)]
 pub struct Started {
     pub answer: StartAnswer,
     pub session: Session,
 }
 
 // What a call answers: the size of its reply and whether the board is to burn its fuse, or why the call is refused.
-#[derive(Drop)]
+#[derive(Clone, Copy)]
 pub enum CallAnswer {
     Done { size: usize, burn: bool },
     ReplyAreaTooSmall,
@@ -46,7 +46,7 @@ pub enum CallAnswer {
 }
 
 // The answer, and the session record for the next call.
-#[derive(Drop)]
+#[derive(Clone, Copy)]
 pub struct Called {
     pub answer: CallAnswer,
     pub session: Session,

@@ -29,7 +29,7 @@ pub enum Order {
 
 // What is answered, what is to be done, and where the bytes stand that go with the answer, and how many: none but for Read back, and for
 // the version that Info tells.
-#[derive(Drop)]
+#[derive(Clone, Copy)]
 pub struct Planned {
     pub reply: Reply,
     pub order: Order,

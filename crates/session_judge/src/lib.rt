@@ -21,7 +21,7 @@ pub enum Effect {
 }
 
 // How the session stands then, what is to be done, and whether the board burns its fuse.
-#[derive(Drop)]
+#[derive(Clone, Copy)]
 pub struct Judged {
     pub standing: Standing,
     pub effect: Effect,

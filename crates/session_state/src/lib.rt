@@ -44,7 +44,7 @@ pub struct Standing {
 }
 
 // How a session stands after a wait, and whether the packet that came then is heard.
-#[derive(Drop)]
+#[derive(Clone, Copy)]
 pub struct Passed {
     pub standing: Standing,
     pub heard: bool,

@@ -109,28 +109,28 @@ pub enum Refusal {
 }
 
 // What the reader answers.
-#[derive(Drop)]
+#[derive(Clone, Copy)]
 pub enum ReadAnswer {
     Accepted,
     Refused(Refusal),
 }
 
 // The answer, and the contents that were read; beside a refusal stand settings that no call takes.
-#[derive(Drop)]
+#[derive(Clone, Copy)]
 pub struct Reading {
     pub answer: ReadAnswer,
     pub contents: Contents,
 }
 
 // What a session takes of them: the settings alone.
-#[derive(Drop)]
+#[derive(Clone, Copy)]
 pub struct SettingsReading {
     pub answer: ReadAnswer,
     pub settings: Kept,
 }
 
 // What the writer answers.
-#[derive(Drop)]
+#[derive(Clone, Copy)]
 pub enum WriteAnswer {
     Written,
     SizeWrong,
@@ -139,7 +139,7 @@ pub enum WriteAnswer {
 }
 
 // What a move answers.
-#[derive(Drop)]
+#[derive(Clone, Copy)]
 pub enum MoveAnswer {
     Moved,
     Refused(Refusal),
@@ -147,7 +147,7 @@ pub enum MoveAnswer {
 }
 
 // Which forms are taken: by the reader both, by a move the one that it starts from.
-#[derive(Drop)]
+#[derive(Clone, Copy)]
 pub enum Forms {
     Both,
     OnlyOne,
@@ -155,14 +155,14 @@ pub enum Forms {
 }
 
 // The form of an image, if it is one of those.
-#[derive(Drop)]
+#[derive(Clone, Copy)]
 pub enum Found {
     Known(Form),
     Unknown,
 }
 
 // What an image is found to be.
-#[derive(Drop)]
+#[derive(Clone, Copy)]
 pub enum Checked {
     Blank,
     Written(Form),

@@ -12,7 +12,7 @@ use settings::{Form, Kept, ReadAnswer};
 pub use writer::write;
 
 // What an image holds. There is form 2 alone.
-#[derive(Drop)]
+#[derive(Clone, Copy)]
 pub struct LargeContents {
     pub form: Form,
     pub settings: Kept,
@@ -20,14 +20,14 @@ pub struct LargeContents {
 }
 
 // The reader's answer, and the contents that were read; beside a refusal stand settings that no call takes.
-#[derive(Drop)]
+#[derive(Clone, Copy)]
 pub struct LargeReading {
     pub answer: ReadAnswer,
     pub contents: LargeContents,
 }
 
 // What the writer answers.
-#[derive(Drop)]
+#[derive(Clone, Copy)]
 pub enum LargeWriteAnswer {
     Written,
     SizeWrong,

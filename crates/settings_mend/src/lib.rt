@@ -8,7 +8,7 @@ pub use examining::examine;
 pub use mending::mend;
 
 // What an image is found to be. Only one that is damaged is changed.
-#[derive(Drop)]
+#[derive(Clone, Copy)]
 pub enum Examined {
     SizeWrong,
     Accepted,
@@ -17,7 +17,7 @@ pub enum Examined {
 }
 
 // How many bytes were changed, by where they stand.
-#[derive(Drop)]
+#[derive(Clone, Copy)]
 pub struct Changes {
     pub table: u16,
     pub filler: u16,
@@ -26,7 +26,7 @@ pub struct Changes {
 }
 
 // What the tool answers.
-#[derive(Drop)]
+#[derive(Clone, Copy)]
 pub enum MendAnswer {
     Mended(Changes),
     SizeWrong,

@@ -15,7 +15,7 @@ pub(crate) fn say_name(rt: &impl Print, names: &[u8], row: u8) -> io::Result<()>
 
 pub(crate) fn say_number(rt: &impl Print, number: u64) -> io::Result<()> {
     say(rt, b" ")?;
-    print!(rt; "{}", number)
+    print!(rt; "{number}")
 }
 
 pub(crate) fn say_bytes(rt: &impl Print, bytes: &[u8]) -> io::Result<()> {

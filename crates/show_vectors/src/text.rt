@@ -11,7 +11,7 @@ pub(crate) fn say(rt: &impl Print, text: &[u8]) -> io::Result<()> {
 // A number after its name.
 pub(crate) fn say_number(rt: &impl Print, name: &[u8], number: usize) -> io::Result<()> {
     say(rt, name)?;
-    print!(rt; "{}", number as u64)
+    print!(rt; "{number}")
 }
 
 pub(crate) fn say_bytes(rt: &impl Print, bytes: &[u8]) -> io::Result<()> {
