@@ -40,17 +40,17 @@ mend:
 # The settings reader and writer at work: proves the program and prints what it wrote.
 show:
 	@tools/progress.py program show_settings
-	@crates/show_settings/out/show_settings
+	@. tools/shared/program.sh && run_program . show_settings
 
 # A session at the sides of every limit, and each command accepted and refused.
 limits:
 	@tools/progress.py program show_limits
-	@crates/show_limits/out/show_limits <crates/show_limits/stdin
+	@. tools/shared/program.sh && run_program . show_limits <crates/show_limits/stdin
 
 # Every whole packet that the source documents print.
 vectors:
 	@tools/progress.py program show_vectors
-	@crates/show_vectors/out/show_vectors
+	@. tools/shared/program.sh && run_program . show_vectors
 
 # The library for C: target/staticlib/libbhorelmu.a, to be linked beside include/bhorelmu.h.
 lib:

@@ -51,9 +51,11 @@ def is_table_jump(kind, register, before, following):
     if kind == "add":
         if TABLE.match(next(line for line in following if not BESIDE_CODE.match(line))):
             return True
-        doubled, before = maker(register, before[:-1] if before[-1].startswith(".LCPI") else before)
-        if doubled != f"{register}, #1":
+        before = before[:-1] if before and before[-1].startswith(".LCPI") else before
+        doubled, earlier = maker(register, before)
+        if doubled != f"{register}, #1" or not before[len(earlier)].startswith("\tlsls\t"):
             return False
+        before = earlier
     made, earlier = maker(register, before)
     entry = ENTRY.match(made)
     return bool(entry and TABLE.match(maker(entry[1], earlier)[0]))

@@ -21,7 +21,7 @@ from prover import below, listed
 from wrong_programs import count_in, files_of
 
 VERBS = {"check", "program", "ci"}
-PROVED = re.compile(r"rt: (\w+) (?:proved$|is kept: )|== (\w+)$|crate (\w+): modules ")
+PROVED = re.compile(r"rt: (\w+) (?:proved$|is kept: )|== (?!summary$)(\w+)$|crate (\w+): modules ")
 REFUSED = re.compile(r"rt: must-fail (\w+/[\w-]+)\.edit: refused")
 RAN = re.compile(r"rt: (\w+) ran, and wrote")
 CHECKED = re.compile(r"checked (\S+), (\d+) of (\d+)$")

@@ -7,9 +7,9 @@
     tools/prover.py note CRATE..     notes that `rt ci` has passed over the crates as they stand, and which libraries it has left: none of these
                                      crates, which had one before, since it puts that back
 
-`rt lib` proves what stands below a crate anew after an `rt ci`, whose libraries it does not take; and it keeps no module. The verdict is
-the same: the words that the prover is called with are those of `rt`. Status 0, or 1 where the crate is not proved, or 2 for wrong use. To be
-run in the repository's root."""
+`rt lib` proves what stands below a crate anew after an `rt ci`, whose libraries it does not take; and it keeps no module. The prover is
+called with the words of `rt`, and compiles for any x86-64 processor. Not to be run beside an `rt` in the same repository, since it does not
+wait for it. Status 0, or 1 where the crate is not proved, or 2 for wrong use. To be run in the repository's root."""
 import hashlib
 import os
 import pathlib

@@ -1,11 +1,11 @@
 #!/usr/bin/env python3
-"""Whether each wrong program was refused, by an error of its own, at a fact. Run after `rt ci`.
+"""Whether each wrong program is refused, by an error of its own, at a fact. Run after `rt ci`.
 
     tools/refusals.py                   of every wrong program
     tools/refusals.py --said FOLDER     by what FOLDER/CRATE/FILE.log has that the prover said, and nothing else
 
-`rt ci` says of a file of wrong programs only what it met first, in target/rt_ci.log. Where that shows each program of the file, it will do;
-the other files are tried here, and all that the prover says is read (`tools/tried.py -h`).
+`rt ci` says of a file of wrong programs only the beginning of what it met first. So each file is tried here once more, and all that the prover
+says of it is read (`tools/tried.py -h`).
 
 Several wrong programs share a run, and it is refused where one of them is. So each must have an error in the proof of a function whose
 text it changes; where it changes a constant or a definition, in the proof of a function that it names, or anywhere if it is alone
@@ -15,19 +15,17 @@ its facts says which of them it does not find. That it calls a function that is 
 
 Status 0, or 1 where a wrong program is not shown to be refused, or 2 for wrong use. To be run in the repository's root."""
 import concurrent.futures
+import os
 import pathlib
 import re
 import sys
 
 sys.dont_write_bytecode = True
 from tried import Tries
-from wrong_programs import Misuse, files_of, functions_in, functions_of, programs_in
+from wrong_programs import Misuse, files_of, functions_of, programs_in
 
-SAID_BY_GATE = pathlib.Path("target/rt_ci.log")
-GATE = re.compile(r"^rt: must-fail (\w+)/([\w.-]+)\.edit: refused, as it must be(?P<little> \(only [^)]*\))?(?:: (?P<first>.*))?$", re.M)
 ERROR = re.compile(r"^(?:\./)?(\S+?):\d+:\d+: error: .*(?:\n  .*)*", re.M)
 OPEN = re.compile(r"^fn (\S+?): no proof: .*did not prove .*", re.M)
-AT_SOURCE = re.compile(r"^note: src/(\w+)\.rt:(\d+):\d+: it is not proved that .*", re.M)
 ECHO = "was not admitted"
 UNFIT = re.compile("that can be named from here|has no field|has no `|binders, but its type has room|is not in scope|it is not inferred")
 LONGEST = 300
@@ -37,14 +35,6 @@ def first_line(error):
     return error.split("\n", 1)[0]
 
 
-def function_at(crate, module, line):
-    """The function of a file that has a line of it, or that a line of attributes stands before."""
-    source = pathlib.Path("crates", crate, "src", f"{module}.rt")
-    whole = source.read_text() if source.is_file() else ""
-    ends = [(whole[:start].count("\n") + 1 + body.count("\n"), (module, name)) for start, name, body in functions_in(source)] if whole else []
-    return next((function for end, function in sorted(ends) if line <= end), None)
-
-
 class Log:
     """What the prover said of a crate with wrong programs in it: its errors, and the functions of which a fact was not found."""
 
@@ -52,19 +42,16 @@ class Log:
         self.crate = crate
         self.errors = [(found[1], found[0]) for found in ERROR.finditer(said) if ECHO not in first_line(found[0])]
         self.open = {found[1]: found[0] for found in OPEN.finditer(said)}
-        self.noted = {}
-        for found in AT_SOURCE.finditer(said):
-            self.noted.setdefault(function_at(crate, found[1], int(found[2])), found[0])
 
     def first_at(self, function):
         """The first error in the proof of a function, or what was not found of it, if any."""
         place = "::".join(part for part in function if part != "lib")
         here = [error for path, error in self.errors if path.startswith(f"proofs/{place.replace('::', '/')}/") or f"/proofs/{place.replace('::', '/')}/" in path]
-        return here[0] if here else self.open.get(f"{self.crate}::{place}") or self.noted.get(function)
+        return here[0] if here else self.open.get(f"{self.crate}::{place}")
 
     def first(self):
         """The first error of all, or the first fact that was not found, if any."""
-        return next((error for _, error in self.errors), next(iter([*self.open.values(), *self.noted.values()]), None))
+        return next((error for _, error in self.errors), next(iter(self.open.values()), None))
 
 
 def shown_by(program, alone):
@@ -95,19 +82,11 @@ def verdicts_of(programs, said):
     return [(program, *judged(program, len(programs) == 1, log)) for program in programs]
 
 
-def said_by_gate():
-    """What `rt ci` met first in each file of wrong programs, where that is a fact."""
-    said = SAID_BY_GATE.read_text(errors="replace") if SAID_BY_GATE.is_file() else ""
-    return {(found[1], found[2]): found["first"] or "" for found in GATE.finditer(said) if not found["little"]}
-
-
-def faults_in(file, first, tries):
-    """What is wrong with the refusals of a file's wrong programs. `first` is what `rt ci` met first in it."""
+def faults_in(file, tries):
+    """What is wrong with the refusals of a file's wrong programs."""
     programs = programs_in(file)
     if not programs:
         return [f"{file}: there is no wrong program"]
-    if first and all(refused for _, refused, _ in verdicts_of(programs, first)):
-        return []
     said, why = tries.said(file)
     if why:
         return [f"{file}: {why}"]
@@ -120,6 +99,12 @@ class Kept:
     def __init__(self, folder):
         self.folder = pathlib.Path(folder)
 
+    def __enter__(self):
+        return self
+
+    def __exit__(self, *_):
+        pass
+
     def said(self, file):
         log = self.folder / file.parts[-3] / f"{file.stem}.log"
         return (log.read_text(errors="replace"), "") if log.is_file() else ("", "no log of its refusal")
@@ -131,11 +116,9 @@ def main(arguments):
         print(__doc__, file=sys.stdout if asked else sys.stderr)
         return 0 if asked else 2
     files = files_of()
-    first = {} if arguments else said_by_gate()
-    tries = Kept(arguments[1]) if arguments else Tries()
     try:
-        with tries if not arguments else Tries(), concurrent.futures.ThreadPoolExecutor(4) as pool:
-            each = list(pool.map(lambda file: faults_in(file, first.get((file.parts[-3], file.stem)), tries), files))
+        with Kept(arguments[1]) if arguments else Tries() as tries, concurrent.futures.ThreadPoolExecutor(len(os.sched_getaffinity(0))) as pool:
+            each = list(pool.map(lambda file: faults_in(file, tries), files))
         faults = [fault for faults in each for fault in faults]
     except Misuse as misuse:
         faults = [str(misuse)]

@@ -1,6 +1,7 @@
 """Tries files of wrong programs: a copy of the crate, outside of the repository, with them in it, is checked over the libraries as they are
 built, and over what a check of the crate as it stands has proved. What the prover says is kept below ~/.cache/bhorelmu/tried (or
-XDG_CACHE_HOME), by a sum over all that it read: the same is tried once on a machine."""
+XDG_CACHE_HOME), where it can be, by a sum over all that it read: the same is tried once on a machine."""
+import contextlib
 import hashlib
 import os
 import pathlib
@@ -110,10 +111,11 @@ class Tries:
             return said, "ACCEPTED: the crate is proved with this in it"
         if status != 1 or not re.search("^logic=not-proved", said, re.M):
             return said, f"neither proved nor refused, status {status}: {said[:300]}"
-        STORE.mkdir(parents=True, exist_ok=True)
-        made = STORE / f"{whole}.{os.getpid()}.{threading.get_ident()}"
-        made.write_text(said)
-        made.replace(kept)
+        with contextlib.suppress(OSError):
+            STORE.mkdir(parents=True, exist_ok=True)
+            made = STORE / f"{whole}.{os.getpid()}.{threading.get_ident()}"
+            made.write_text(said)
+            made.replace(kept)
         return said, ""
 
 

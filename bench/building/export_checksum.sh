@@ -46,8 +46,10 @@ export_checksum() {
     write_export "$aside"
     mkdir -p target/bench/checksum
     prover=$PWD/tools/prover.py
-    (cd "$aside" && "$prover" build export) && cp "$aside"/target/staticlib/export.* target/bench/checksum/
+    (cd "$aside" && "$prover" build export)
     status=$?
+    cp "$aside"/target/staticlib/export.* target/bench/checksum/ 2>/dev/null
+    [ "$status" -eq 0 ] || echo "the export was not built; target/bench/checksum/export.log has what the prover said" >&2
     rm -rf "$aside"
     return "$status"
 }

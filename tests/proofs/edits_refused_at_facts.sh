@@ -40,14 +40,6 @@ says() { # STATUS WORDS LINES..
     told --said said
 }
 
-# The same with LINES that `rt ci` has said of it.
-says_of_gate() { # STATUS WORDS LINES..
-    wanted=$1 words=$2
-    shift 2
-    printf '%s\n' "$@" >"$work/target/rt_ci.log"
-    told
-}
-
 told() { # ARGUMENTS..
     said=$(cd "$work" && XDG_CACHE_HOME=$work PATH="$work/bin:$PATH" python3 -B "$root/tools/refusals.py" "$@" 2>&1)
     status=$?
@@ -69,16 +61,33 @@ rm "$work/said/low/both.log"
 wanted=1 words='no log of its refusal'
 told --said said
 
-# What `rt ci` has met first shows one wrong program of a file, and no second one: such a file is tried. Here the prover is one that fails.
+# With no folder each file is tried: here by a prover that proves the crate as it stands, and of the copy with the wrong programs in it says LINES.
 mkdir "$work/bin"
-printf '#!/bin/sh\nexit 1\n' >"$work/bin/rt"
-chmod +x "$work/bin/rt"
-first='rt: must-fail low/both.edit: refused, as it must be'
-says_of_gate 1 '' "$first: note: src/lib.rt:5:1: it is not proved that what the function ensures holds when it returns"
-sed -i '/^$/,$d' "$work/crates/low/must-fail/both.edit"
-says_of_gate 0 '' "$first: note: src/lib.rt:1:1: it is not proved that what the function ensures holds when it returns"
-says_of_gate 1 '' "$first: note: src/lib.rt:5:1: it is not proved that what the function ensures holds when it returns"
-says_of_gate 1 '' "$first (only because a proof file names what the edit took away, so this says little): $at_callee $fact"
+cat >"$work/bin/rt" <<'STUB'
+#!/bin/sh
+case $1 in
+doc) echo "${0%/bin/rt}/START-HERE.md" ;;
+version) echo "a kit of the test's own" ;;
+esac
+STUB
+cat >"$work/bin/rattle" <<'STUB'
+#!/bin/sh
+case $PWD in */crate) cat "$SAYS" && grep -q '^logic=proved' "$SAYS" && exit 0 || exit 1 ;; esac
+echo logic=proved
+STUB
+chmod +x "$work/bin/rt" "$work/bin/rattle"
+export SAYS="$work/said/lines"
+says_of_copy() { # STATUS WORDS LINES..
+    wanted=$1 words=$2
+    shift 2
+    printf '%s\n' "$@" >"$SAYS"
+    rm -rf "$work/bhorelmu"
+    told
+}
+says_of_copy 0 'checking low with one_less, two_more in it' "fn low::callee: $open_fact" "$at_caller $fact" logic=not-proved
+says_of_copy 1 'two_more: no error of its own' "fn low::callee: $open_fact" "fn low::caller: $echo" logic=not-proved
+says_of_copy 1 'ACCEPTED: the crate is proved with this in it' logic=proved
+says_of_copy 1 'neither proved nor refused, status 1' 'src/lib.rt:1:1: error: a word too many'
 
 python3 -B tools/refusals.py || bad=1
 exit "$bad"

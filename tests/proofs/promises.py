@@ -11,7 +11,8 @@ the law must say is written from the head of the function by these rules, and co
   returned. `result.now`, the bytes of a slice that is returned, becomes `r`.
 - A word stands for what its file fetches under that name: both files must fetch it from the same place.
 
-What a stream gives no promise can say, so a function that reads one has no law (STREAMS): docs/PROMISES.md says what it promises."""
+What a stream gives is not always known, and then no promise can say it. So a function that reads one has no law (STREAMS); docs/PROMISES.md says
+what it promises, and its wrong programs hold each part of that."""
 import pathlib
 import re
 import sys
@@ -176,6 +177,8 @@ def main():
         wrong += [f"{crate}::{name}: {fault}" for fault in wrong_with(head, text, promises.get((crate, name), ""), laws)]
     wrong += [f"{PROMISES}: {crate} has no public function {name}" for crate, name in promises if (crate, name) not in heads]
     wrong += [f"{LAWS}: {law} is the law of no function" for law in laws if law not in named]
+    wrong += [f"{crate}::{name}, of STREAMS, is no public function, or {PROMISES} does not tell of it" for crate, name in STREAMS
+              if (crate, name) not in heads or (crate, name) not in promises]
     for line in wrong:
         print(line)
     return 1 if wrong or not heads else 0

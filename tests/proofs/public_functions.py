@@ -25,10 +25,10 @@ def public_functions(library):
 def wrong_in(crate):
     breaks = [name for program in programs_of(crate.name) for name in program.functions]
     for source, name, head in public_functions(crate):
-        promises = len(re.findall(r"^ *ensures ", head, re.M))
+        promises = len(re.findall(r"^ *ensures\b", head, re.M))
         if promises != 1:
             yield f"{source}: {name} has {promises} ensures, and 1 is wanted"
-        if re.search(r"^ *requires ", head, re.M):
+        if re.search(r"^ *requires\b", head, re.M):
             yield f"{source}: {name} has a requires"
         if breaks.count(name) < 2:
             yield f"{source}: {name} has {breaks.count(name)} wrong programs, and 2 are wanted"

@@ -4,8 +4,8 @@
     tools/port/respell.py             writes
     tools/port/respell.py --check     writes nothing; says what a run would do
 
-To be run at the top of the repository, after the kit's port.py and before any work by hand. A second run finds nothing more to do. Status 0, or 1 where two
-names would fall together: then nothing is written.
+To be run at the top of the repository, after the kit's port.py and before any work by hand; docs/PORT.md names the commit. A second run there finds nothing more to
+do, and a later one takes names of today's goals for its own. Status 0, or 1 where two names would fall together: then nothing is written.
 
 The rule is the kit's (CONTRACT_STYLE.md, "Names"): types and modules are in upper camel case, all else is in snake case: definitions, fields, constructors,
 lemmas and variables. A dash stands only between two names, after which an equation is called: its left side, the outer call first (`length-bytes_of`). A
