@@ -8,8 +8,8 @@
 says of it is read (`tools/tried.py -h`).
 
 Several wrong programs share a run, and it is refused where one of them is. So each must have an error in the proof of a function whose
-text it changes; where it changes a constant or a definition, in the proof of a function that it names, or anywhere if it is alone
-in its file. An error shows nothing where it says that another function was not admitted, or that a name or an argument is
+text it changes; where it changes a constant or a definition, in the proof of a function that it names, or of any function if it is alone
+in its file, or, where the crate has none of those that it names, in any proof. An error shows nothing where it says that another function was not admitted, or that a name or an argument is
 missing: then the edit merely made the proof file unfit for the code. A function that has no proof file has no such error; the search for
 its facts says which of them it does not find. That it calls a function that is not proved shows nothing.
 
@@ -49,9 +49,14 @@ class Log:
         here = [error for path, error in self.errors if path.startswith(f"proofs/{place.replace('::', '/')}/") or f"/proofs/{place.replace('::', '/')}/" in path]
         return here[0] if here else self.open.get(f"{self.crate}::{place}")
 
+    def first_of_functions(self):
+        """The first error in the proof of any function, or the first fact that was not found of one, if any."""
+        here = [error for path, error in self.errors if path.endswith(("/Answers.antt", "/Invariants.antt"))]
+        return here[0] if here else next(iter(self.open.values()), None)
+
     def first(self):
         """The first error of all, or the first fact that was not found, if any."""
-        return next((error for _, error in self.errors), next(iter(self.open.values()), None))
+        return next((error for _, error in self.errors), None) or self.first_of_functions()
 
 
 def shown_by(program, alone):
@@ -67,8 +72,9 @@ def judged(program, alone, log):
     """Whether a wrong program is shown to be refused, and the error that shows it or what is wrong."""
     functions, anywhere = shown_by(program, alone)
     errors = [error for error in map(log.first_at, sorted(functions)) if error]
-    if not errors and anywhere and log.first():
-        errors = [log.first()]
+    if not errors and anywhere:
+        first = log.first_of_functions() if functions else log.first()
+        errors = [first] if first else []
     fitting = [error for error in errors if not UNFIT.search(error)]
     if fitting:
         return True, first_line(fitting[0])

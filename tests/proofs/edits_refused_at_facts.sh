@@ -36,7 +36,7 @@ echo='no proof: it calls `low::callee`, which is not proved'
 says() { # STATUS WORDS LINES..
     wanted=$1 words=$2
     shift 2
-    printf '%s\n' "$@" logic=not-proved >"$work/said/low/both.log"
+    printf '%s\n' "$@" logic=not-proved >"$work/said/low/$file.log"
     told --said said
 }
 
@@ -47,6 +47,7 @@ told() { # ARGUMENTS..
     case $said in *"$words"*) ;; *) complain "$*: does not say '$words', but: $said" ;; esac
 }
 
+file=both
 at_callee='./proofs/callee/Answers.antt:1:2:' at_caller='./proofs/caller/Answers.antt:3:4:'
 says 0 '' "$at_callee $fact" "$at_caller $fact"
 says 0 '' "$at_caller $masked" "$at_caller $fact" "fn low::callee: $open_fact"
@@ -88,6 +89,21 @@ says_of_copy 0 'checking low with one_less, two_more in it' "fn low::callee: $op
 says_of_copy 1 'two_more: no error of its own' "fn low::callee: $open_fact" "fn low::caller: $echo" logic=not-proved
 says_of_copy 1 'ACCEPTED: the crate is proved with this in it' logic=proved
 says_of_copy 1 'neither proved nor refused, status 1' 'src/lib.rt:1:1: error: a word too many'
+
+# A wrong definition, alone in its file: that a law no longer stands shows it only where the crate has no function that it names.
+rm "$work/crates/low/must-fail/both.edit"
+mkdir "$work/crates/low/specs"
+echo 'low = 1' >"$work/crates/low/specs/Low.antt"
+defines() { # FUNCTION
+    printf '# wrong_low (%s): wrong\nfile: specs/Low.antt\nold: 1\nnew: 2\n' "$1" >"$work/crates/low/must-fail/alone.edit"
+}
+file=alone at_law='./proofs/Laws.antt:1:2:'
+defines callee
+says 1 'wrong_low: no error of its own' "$at_law $fact"
+says 0 '' "$at_law $fact" "$at_caller $fact"
+says 0 '' "$at_law $fact" "fn low::callee: $open_fact"
+defines high
+says 0 '' "$at_law $fact"
 
 python3 -B tools/refusals.py || bad=1
 exit "$bad"

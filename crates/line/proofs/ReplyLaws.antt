@@ -1,8 +1,8 @@
 -- Replies: their sizes, and that their pieces join.
-use mathlib.Core.Path.{◌≡◌, refl, ap, ◌∙◌}
+use mathlib.Core.Path.{◌≡◌, refl, sym, ap, ◌∙◌}
 use mathlib.Core.Bool.{true, false}
 use mathlib.Core.List.{List, [], ◌∷◌, ◌++◌}
-use Prim.Native.Nat.{ℕ, suc, ◌+◌, ◌-◌, ◌/◌, ◌%◌, ◌≤◌}
+use Prim.Native.Nat.{ℕ, suc, ◌+◌, ◌-◌, ◌/◌, ◌%◌, ◌≤◌, ◌<◌}
 use native.Mathlib.Omega.{arith}
 use borrow.Author.Tests.{le-ltb, ltb-false}
 use lib.Dec.{ltb}
@@ -10,6 +10,7 @@ use lib.ListN.{length, take, drop, length-append}
 use lib.Seq.{sets, take_at}
 use Rattle.octets.specs.Choice.{pick}
 use Rattle.octets.specs.Number.{bytes_of, number_at}
+use Rattle.octets.proofs.Numbers.{eight_of_halves, two_fours}
 use Rattle.octets.proofs.Searching.{by_pick}
 use Rattle.octets.proofs.StoreLaws.{sets_join, stored_front}
 use Rattle.checksum.specs.Checksum.{checksum_of}
@@ -100,3 +101,21 @@ unfolding sent_of
 sent_fits bytes area =
     by_pick (λ (left : Sent). left.size ≤ reply_limit) (ltb reply_limit (length bytes)) _ _ (λ y. omega arith)
     (λ n. by_pick (λ (left : Sent). left.size ≤ reply_limit) (ltb (length area) (length bytes)) _ _ (λ y. omega arith) (λ m. ltb-false _ _ n))
+
+-- the fixed numbers of Info, with room for a version of eight bytes and for two numbers
+abbrev long_info_fixed : List ℕ
+long_info_fixed =
+    0x00 ∷ 0x01 ∷ 0x00 ∷ 0x01 ∷ 0 ∷ 0 ∷ 0 ∷ 0 ∷ 0 ∷ 0 ∷ 0 ∷ 0 ∷ 0x01 ∷ 0x00 ∷ 0xC0 ∷ 0x06 ∷ 0x60 ∷ 0x01 ∷ 0x00 ∷ 0x20 ∷ 0 ∷ 0 ∷ 0 ∷ 0 ∷ 0 ∷ 0 ∷ 0 ∷ 0 ∷ []
+
+-- Info with a version of eight bytes: its two halves and the two numbers, stored at their places among the fixed numbers
+abbrev around_version : List ℕ → ℕ → ℕ → List ℕ
+around_version version bcr bsl =
+    0x00 ∷ 0x01 ∷ 0x00 ∷ 0x01 ∷ (version ++ (0x01 ∷ 0x00 ∷ 0xC0 ∷ 0x06 ∷ 0x60 ∷ 0x01 ∷ 0x00 ∷ 0x20 ∷ (bytes_of 4 bcr ++ bytes_of 4 bsl)))
+
+pub long_info_made : (version : List ℕ) (bcr bsl : ℕ) → number_at 0 4 version < 4294967296
+    → sets (sets (sets (sets long_info_fixed 4 (bytes_of 4 (number_at 0 4 version))) 8 (bytes_of 4 (number_at 4 4 version))) 20 (bytes_of 4 bcr)) 24 (bytes_of 4 bsl)
+    ≡ info_of 8 (number_at 0 8 version) bcr bsl
+unfolding info_of bytes_of
+long_info_made version bcr bsl small =
+    ap (λ (eight : List ℕ). around_version eight bcr bsl)
+    (sym (ap (bytes_of 8) (two_fours version) ∙ eight_of_halves (number_at 0 4 version) (number_at 4 4 version) small))

@@ -75,7 +75,6 @@ fn info_of(version: &[u8], bcr_id: u32, bsl_id: u32) -> [u8; 24]
 }
 
 // The same with a version of eight bytes.
-#[tactic(auto, unfolding(crate::specs::Replies::info_of, octets::specs::Number::bytes_of))]
 fn long_info_of(version: &[u8], bcr_id: u32, bsl_id: u32) -> [u8; 28]
     ensures { result ≡ info_of 8 (number_at 0 8 version.now) bcr_id bsl_id }
 {
