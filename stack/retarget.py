@@ -4,9 +4,10 @@
 
 What is changed: the target and its layout go, and with them the attributes that name x86-64; an exported function takes the size of
 an area as the core's size_t, and widens it to the 64 bits of Rattle's usize; an area may begin at the address 0, as MAIN does on a
-board, so an exported function no longer takes another place for one that begins there. What is refused: all that could mean something else there. That is, a pointer that is read, stored or compared as a number, a
-load or store without its own alignment, a global that is not a constant of plain bytes, a call of anything but the module's functions and the intrinsics below, and an
-exported function of another form."""
+board, so an exported function no longer takes another place for one that begins there. What is refused: all that could mean something
+else there. That is, a pointer that is read, stored or compared as a number, a load or store without its own alignment, a global that is
+not a constant of plain bytes, a call of anything but the module's functions and the intrinsics below, and an exported function of
+another form."""
 import pathlib
 import re
 import sys
