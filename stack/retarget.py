@@ -4,10 +4,12 @@
 
 What is changed: the target and its layout go, and with them the attributes that name x86-64; an exported function takes the size of
 an area as the core's size_t, and widens it to the 64 bits of Rattle's usize; an area may begin at the address 0, as MAIN does on a
-board, so an exported function no longer takes another place for one that begins there. What is refused: all that could mean something
+board, so an exported function no longer takes another place for one that begins there; a pair that is read whole is read in its two parts,
+each where it stands on x86-64, since there a pointer behind a byte stands elsewhere. What is refused: all that could mean something
 else there. That is, a pointer that is read, stored or compared as a number, a load or store without its own alignment, a global that is
 not a constant of plain bytes, a call of anything but the module's functions and the intrinsics below, and an exported function of
 another form."""
+import math
 import pathlib
 import re
 import sys
@@ -30,6 +32,7 @@ ELSEWHERE = re.compile(r"""^  (%\w+) = icmp eq ptr (%a\d+), null
   (%\w+) = zext i1 \1 to i64
   (%\w+) = mul i64 \3, 4096
   (%\w+) = getelementptr i8, ptr \2, i64 \4$""", re.M)
+PAIR = re.compile(r"^  (%\w+) = load \{ (\w+), (\w+) \}, ptr (%\w+), align (\d+)$")
 ACCESS = re.compile(r"^  (?:%\w+ = load (\w+), ptr (%\w+),|store (\w+) \S+, ptr (%\w+),)")
 
 
@@ -46,6 +49,8 @@ def check_step(line):
         refuse("pointers are compared", line)
     if name in ("load", "store") and ", align " not in words:
         refuse("no alignment", line)
+    if name in ("load", "store") and words.startswith(" {"):
+        refuse("several values are read or stored as one", line)
 
 
 def check_line(line):
@@ -76,6 +81,20 @@ def check_pointers(head, body):
         for pointer in (offset for offset, kind in accesses if kind == "ptr"):
             if any(overlaps(pointer, access) for access in accesses):
                 refuse("a pointer is read or stored as a number", head)
+
+
+def apart(line):
+    """The lines that read a pair in its two parts, for one that reads it whole."""
+    found = PAIR.match(line)
+    if not found:
+        return [line]
+    pair, first, second, place, aligned = found.groups()
+    offset = max(WIDTHS[first], WIDTHS[second])
+    return [f"  {pair}_first = load {first}, ptr {place}, align {aligned}",
+            f"  {pair}_place = getelementptr i8, ptr {place}, i64 {offset}",
+            f"  {pair}_second = load {second}, ptr {pair}_place, align {math.gcd(int(aligned), offset)}",
+            f"  {pair}_half = insertvalue {{ {first}, {second} }} poison, {first} {pair}_first, 0",
+            f"  {pair} = insertvalue {{ {first}, {second} }} {pair}_half, {second} {pair}_second, 1"]
 
 
 def check_size(name, variable, body):
@@ -124,7 +143,8 @@ def retargeted(lines):
         check_line(line)
         if line.startswith("define "):
             end = lines.index("}", at)
-            body = lines[at + 1:end] if line.startswith("define internal ") else where_it_lies(lines[at + 1:end])
+            body = [step for whole in lines[at + 1:end] for step in apart(whole)]
+            body = body if line.startswith("define internal ") else where_it_lies(body)
             for inner in body:
                 check_line(inner)
             check_pointers(line, body)

@@ -28,7 +28,8 @@ SOURCE = re.compile(r"\b(?:[Dd]emands?|[Ii]nsurer|01|004|000|002|T-\d\d)\b(?! [0
 REQUEST = re.compile(r"^\*\*(T-\d\d [^*]*)\.\*\* (.*)$", re.M)
 SECTION = re.compile(r"(?:01, |; )([A-Z][\w ]+)")
 DEFINITION = re.compile(r'(?:(?:unfoldable |abbrev )?(?:pub )?([^\s():]+) :\s'
-                        r'|(?:pub(?:\(crate\))? )?(?:extern "C" )?(?:fn|const|record|struct|enum) (\w+)'
+                        r'| *(?:pub(?:\(crate\))? )?(?:extern "C" )?(?:fn|const|static|type|trait|record|struct|enum) (\w+)'
+                        r'|impl\b(?:<[^<>]*>)? (?:\S+ for )?(\w+)'
                         r'| +(?:unfoldable |abbrev )?pub ([^\s():]+) :\s)')
 
 Section = collections.namedtuple("Section", "title text sentences")

@@ -4,9 +4,10 @@
     tools/moved.py BASE           from the commit BASE to the files as they stand
     tools/moved.py BASE LATER     from the commit BASE to the commit LATER
 
-- A definition is one of the files in `specs/`, or a type or a constant of a source. It has moved where its text is another; comments and
-  line ends do not count.
-- A contract is the head of a function, up to its body: its parameters, and what it asks and promises.
+- A definition is one of the files in `specs/`, or a type, a trait, a constant or a static of a source. It has moved where its text is another;
+  comments and line ends do not count.
+- A contract is the head of a function, up to its body: its parameters, and what it asks and promises. To it belong the ghost members of the
+  `impl` of a trait that it stands in.
 - A proof is a file in `proofs/`. All else may change its file within its crate, and has stayed.
 
 Status 0, or 2 for wrong use. To be run in the repository."""
@@ -17,11 +18,14 @@ import subprocess
 import sys
 import tarfile
 
+sys.dont_write_bytecode = True
+from wrong_programs import blocks_in, functions_of_text
+
 COMMENT = re.compile(r"^\s*(?:--|//).*\n", re.M)
 ITEM = re.compile(r"^(?:(?:unfoldable |abbrev )?(?:pub )?(record )?([^\s():]+) :\s|(?:unfoldable |abbrev )?(?:pub )?(record|data) (\S+) )")
 IN_MODULE = re.compile(r"^  (?:unfoldable |abbrev )?pub ([^\s():]+) :\s")
-TYPE = re.compile(r"^(?:pub(?:\(crate\))? )?(struct|enum|const) (\w+).*?(?:^\}|;$)", re.M | re.S)
-FUNCTION = re.compile(r'^ *(?:pub(?:\(crate\))? )?(?:extern "C" )?fn (\w+).*?(?=^ *\{ *$)', re.M | re.S)
+TYPE = re.compile(r"^(?:pub(?:\(crate\))? )?(struct|enum|const|static|type) (\w+).*?(?:^\}|;$)", re.M | re.S)
+GHOST = re.compile(r"^ +ghost \w+ = .*?;$", re.M | re.S)
 PROGRAM = re.compile(r"^# (\w+) \(.*?(?=^# \w+ \(|\Z)", re.M | re.S)
 SUFFIXES = (".rt", ".antt", ".edit")
 
@@ -81,8 +85,12 @@ def parts_of(path, text):
         bare = COMMENT.sub("", text)
         for found in TYPE.finditer(bare):
             yield "definitions", f"`{found.group(2)}` of `{crate}`", folded(found.group())
-        for found in FUNCTION.finditer(bare):
-            yield "contracts", f"`{found.group(1)}` of `{crate}`", folded(found.group())
+        for block in blocks_in(bare):
+            if block.kind == "trait":
+                yield "definitions", f"`{block.owner}` of `{crate}`", folded(block.text)
+        for function in functions_of_text(bare):
+            ghosts = GHOST.findall(function.block.text) if function.block else []
+            yield "contracts", f"`{function.name}` of `{crate}`", folded("\n".join([*ghosts, function.head]))
 
 
 def collected(files):

@@ -64,7 +64,7 @@ def shown_by(program, alone):
     changed = set(program.changed())
     if None not in changed:
         return changed, False
-    named = {function for function in functions_of(program.crate) if function[1] in program.functions}
+    named = {function for function, name in functions_of(program.crate).items() if name in program.functions}
     return changed - {None} | named, alone
 
 

@@ -6,9 +6,9 @@
 prints of each: its crate, the file that it stands in, its name, and the functions that it breaks.
 
 A file crates/CRATE/must-fail/FILE.edit has one wrong program or several, which are tried in one run. Each begins with a line
-`# NAME (FUNCTION, FUNCTION): what it does`, which names the public functions that it breaks; one of a type is `TYPE::FUNCTION`. After it
-come lines `file: src/x.rt`, `old: text` and `new: text`; a `file:` line holds for the pairs after it. Each old text stands in its file
-once.
+`# NAME (FUNCTION, FUNCTION): what it does`, which names the public functions that it breaks; one of a type or a trait is `TYPE::FUNCTION`,
+as `Mspm0::part`, and one that a type has of a trait is the type's, as `u8::from`. After it come lines `file: src/x.rt`, `old: text` and
+`new: text`; a `file:` line holds for the pairs after it. Each old text stands in its file once.
 
 Status 0, or 2 for wrong use. To be run in the repository's root."""
 import pathlib
@@ -18,7 +18,9 @@ import typing
 
 FIRST = re.compile(r"# (\w+) \(([^)]+)\): \S.*")
 FUNCTION = re.compile(r'^( *)(?:pub(?:\(crate\))? )?(?:extern "C" )?fn (\w+)', re.M)
-OWNER = re.compile(r"^impl (\w+) \{", re.M)
+BLOCK = re.compile(r"^(?:pub(?:\(crate\))? )?(trait|impl\b(?:<[^{}]*?(?<!-)>(?= ))?) ([^{}]*[^{}\s])\s*\{.*?^\}", re.M | re.S)
+BRACKET = re.compile(r"[(\[{}\])]|;")
+CLAUSE = re.compile(r"\b(?:requires|ensures|decreases)(?: \w+)?\s*")
 
 
 class Misuse(Exception):
@@ -48,36 +50,109 @@ class Program(typing.NamedTuple):
                 old = None
 
     def changed(self):
-        """The functions whose text it changes, by module and name; None stands for a text outside of functions."""
+        """The functions whose text it changes, by module and place; None stands for a text outside of functions."""
         for file, old, _ in self.replacements():
             yield function_around(pathlib.Path("crates", self.crate, file), old) if file.startswith("src/") else None
 
 
+class Block(typing.NamedTuple):
+    """A trait, or an `impl` with its trait if it has one: where it stands, its kind with its own parameters, its type and its text."""
+    begin: int
+    end: int
+    kind: str
+    trait: typing.Optional[str]
+    owner: str
+    text: str
+
+    def place(self):
+        """What the prover calls it: by the words of its type, its trait's name and the words of the trait's arguments, without the own parameters."""
+        if not self.trait:
+            return bare(self.owner)
+        own = re.findall(r"[<,] *(?:const )?(\w+)", self.kind)
+        words = re.findall(r"\w+", re.sub(r"'\w+|\w+::", "", f"{self.owner} {self.trait}".replace("&", " Ref ")))
+        return "".join(word[:1].upper() + word[1:] for word in words if word not in own)
+
+
+class Function(typing.NamedTuple):
+    """A function: where it begins, its name, which begins with that of the type or trait that has it, what the prover calls it, its text
+    up to the body, its text, and the trait or `impl` that it stands in."""
+    begin: int
+    name: str
+    place: str
+    head: str
+    text: str
+    block: typing.Optional[Block]
+
+
+def bare(name):
+    """The name of a type without its path and its arguments."""
+    return re.sub(r"<.*", "", name).rpartition("::")[2].lstrip("&")
+
+
+def blocks_in(whole):
+    """The traits and the `impl`s of a text."""
+    for found in BLOCK.finditer(whole):
+        kind, said = found[1], found[2].split("\nwhere ")[0]
+        if kind == "trait":
+            yield Block(*found.span(), kind, None, re.split(r"[<:\s]", said)[0], found[0])
+        else:
+            trait, _, owner = said.rpartition(" for ")
+            yield Block(*found.span(), kind, trait or None, owner, found[0])
+
+
+def end_of_head(whole, at):
+    """Where the body of a function begins whose text begins at a place, or where it ends if it has none."""
+    depth = 0
+    for found in BRACKET.finditer(whole, at):
+        if depth == 0 and found[0] == ";":
+            return found.end()
+        if depth == 0 and found[0] == "{" and not any(clause.end() == found.start() for clause in CLAUSE.finditer(whole, at, found.start())):
+            return found.start()
+        depth += {"(": 1, "[": 1, "{": 1, ";": 0}.get(found[0], -1)
+    return len(whole)
+
+
+def end_of_body(whole, at, indent):
+    """Where a body ends that begins at a place, if there is one: on its line, or at the brace that stands as far in as its function."""
+    if not whole.startswith("{", at):
+        return at
+    line = re.compile(r".*\}$|", re.M).match(whole, at)
+    end = re.compile(rf"^{indent}\}}", re.M).search(whole, at)
+    return line.end() if line[0] else end.end() if end else len(whole)
+
+
 def functions_in(source):
-    """The place, name and text of each function of a file. The name of one that belongs to a type begins with the type's."""
-    whole = source.read_text()
+    """The functions of a file."""
+    return functions_of_text(source.read_text())
+
+
+def functions_of_text(whole):
+    """The functions of the text of a file."""
+    blocks = list(blocks_in(whole))
     for found in FUNCTION.finditer(whole):
-        end = re.compile(rf"^{found[1]}\}}", re.M).search(whole, found.end())
-        owners = OWNER.findall(whole, 0, found.start()) if found[1] else []
-        yield found.start(), "::".join([*owners[-1:], found[2]]), whole[found.start():end.end() if end else len(whole)]
+        block = next((block for block in blocks if block.begin < found.start() < block.end), None)
+        body = end_of_head(whole, found.end())
+        owner, place = ([bare(block.owner)], [block.place()]) if block else ([], [])
+        yield Function(found.start(), "::".join([*owner, found[2]]), "::".join([*place, found[2]]), whole[found.start():body].rstrip(),
+                       whole[found.start():end_of_body(whole, body, found[1])], block)
 
 
 def function_around(source, text):
-    """The module and name of the function that has a text, if one has it."""
+    """The module and place of the function that has a text, if one has it."""
     at = source.read_text().find(text)
-    return next(((source.stem, name) for start, name, body in functions_in(source) if start <= at < start + len(body)), None)
+    return next(((source.stem, it.place) for it in functions_in(source) if it.begin <= at < it.begin + len(it.text)), None)
 
 
 def function_text(crate, function):
-    """The text of a function that is given by module and name."""
+    """The text of a function that is given by module and place."""
     module, wanted = function
-    return next(text for _, name, text in functions_in(pathlib.Path("crates", crate, "src", f"{module}.rt")) if name == wanted)
+    return next(it.text for it in functions_in(pathlib.Path("crates", crate, "src", f"{module}.rt")) if it.place == wanted)
 
 
 def functions_of(crate):
-    """The functions of a crate, by module and name."""
+    """The functions of a crate, by module and place, and the name of each."""
     sources = sorted(pathlib.Path("crates", crate, "src").glob("*.rt"))
-    return [(source.stem, name) for source in sources for _, name, _ in functions_in(source)]
+    return {(source.stem, it.place): it.name for source in sources for it in functions_in(source)}
 
 
 def programs_in(file):

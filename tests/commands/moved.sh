@@ -59,6 +59,45 @@ python3 -B "$tool" HEAD | diff expected - || complain "what has moved is told ot
 git add . && git commit -qm after
 python3 -B "$tool" HEAD~1 HEAD | diff expected - || complain "between two commits it is told otherwise"
 
+# Forms of a source: a static, a trait, and what a type has of one.
+cat >crates/one/src/lib.rt <<'CODE'
+pub static TABLE: [u8; 2] = [1, 2];
+
+pub trait Layout {
+    ghost layout: { Shape };
+
+    fn size() -> usize
+        ensures { result ≡ size_of layout };
+}
+
+impl From<Reason> for Error {
+    ghost from_gives = { λ reason error. error ≡ Low reason };
+
+    fn from(reason: Reason) -> Error {
+        Error::Low(reason)
+    }
+}
+
+pub fn kept<const N: usize>(a: [u8; N]) -> u8
+    ensures { result ≡ a }
+{
+    1
+}
+CODE
+git add . && git commit -qm forms
+sed -i 's/\[1, 2\]/[1, 3]/; s/size_of/length_of/; s/Low reason/High reason/; s/Error::Low/Error::High/; s/    1/    2/' crates/one/src/lib.rt
+cat >expected <<'TEXT'
+definitions: 0 new, 2 changed, 0 gone, 4 stayed
+  changed: `TABLE` of `one`
+  changed: `Layout` of `one`
+contracts: 0 new, 2 changed, 0 gone, 1 stayed
+  changed: `Layout::size` of `one`
+  changed: `Error::from` of `one`
+proofs: 0 new, 0 changed, 0 gone, 1 stayed
+wrong programs: 0 new, 0 changed, 0 gone, 1 stayed
+TEXT
+python3 -B "$tool" HEAD | diff expected - || complain "of a trait and an impl it is told otherwise"
+
 python3 -B "$tool" nowhere >/dev/null 2>said && complain "a commit that is not there is taken"
 grep -q "'nowhere' is no commit" said || complain "a commit that is not there is not told: $(cat said)"
 python3 -B "$tool" >/dev/null 2>&1

@@ -9,10 +9,10 @@ import re
 import sys
 
 from public_functions import libraries, public_functions
-from wrong_programs import files_of, programs_of
+from wrong_programs import bare, blocks_in, files_of, programs_of
 
-PAST = pathlib.Path("docs/PORT.md")  # tells what had which name before, and is signed by nobody
-SIGNED = [path for path in sorted(pathlib.Path("docs").glob("*.md")) if path != PAST] + [pathlib.Path("README.md")]
+PAST = {pathlib.Path("docs/PORT.md"), pathlib.Path("docs/DESIGN-PASS.md")}  # tell what had which name before, and are signed by nobody
+SIGNED = [path for path in sorted(pathlib.Path("docs").glob("*.md")) if path not in PAST] + [pathlib.Path("README.md")]
 PROMISES = pathlib.Path("docs/PROMISES.md")
 
 # How a document cites: names, and beside them the files that have them or the one crate, record, struct or enum.
@@ -26,18 +26,18 @@ PLACEHOLDER = re.compile(r"\b(CRATE|MODULE|FUNCTION|NAME)\b")
 MARKER = re.compile(r"(<{7}|={7}|>{7}|\|{7})( |$)")
 
 # How a file defines. What is declared with its type is unindented or public: what is local to a proof cannot be cited. The parts
-# of a record and the cases of a data type stand two spaces in, those of a struct, an enum or an impl four.
+# of a record and the cases of a data type stand two spaces in, those of a struct, an enum, a trait or an impl four; of an impl they are its type's.
 DECLARED = re.compile(r"^(?: *(?:unfoldable |abbrev )?pub |(?:unfoldable |abbrev )?)([^\s():]+) :\s", re.M)
-ITEM = re.compile(r'^(?:pub(?:\(crate\))? )?(?:extern "C" )?(?:fn|const|mod) (\w+)', re.M)
-OWNER = re.compile(r"^(?:pub(?:\(crate\))? )?(?:record|data|struct|enum|impl) (\w+).*\n((?:(?: .*)?\n)*)", re.M)
-PART = re.compile(r"^(?:  |    )(?:pub )?(?:fn |const )?(\w[\w'-]*)(?: ?:|,|\(| \{)", re.M)
+ITEM = re.compile(r'^(?:pub(?:\(crate\))? )?(?:extern "C" )?(?:fn|const|static|mod|type) (\w+)', re.M)
+OWNER = re.compile(r"^(?:pub(?:\(crate\))? )?(?:record|data|struct|enum) (\w+).*\n((?:(?: .*)?\n)*)", re.M)
+PART = re.compile(r"^(?:  |    )(?:pub )?(?:fn |const |ghost )?(\w[\w'-]*)(?: ?:|,|\(|<| \{| = \{)", re.M)
 PARAMETER = re.compile(r"(\w+): ")
 FROM_LIBRARY = re.compile(r"^(?:ghost )?use (?:Prim|mathlib|lib|borrow|Rattle\.(?:std|core))\.[^{\n]*\{([^}]*)\}", re.M)
 
 # What may be cited and is defined nowhere here.
 ORDINARY = {
     # words of the language, and steps of a proof
-    "requires", "if", "else", "loop", "while", "match", "use", "where", "unfolding", "unfoldable", "cc", "omega", "rw", "search",
+    "requires", "if", "else", "loop", "while", "for", "match", "static", "trait", "impl", "use", "where", "From", "TryFrom", "Display", "unfolding", "unfoldable", "cc", "omega", "rw", "search",
     # the toolchain's command, functions of C and zlib, and a word of a script's text
     "rt", "crc32", "memcmp", "memcpy", "memset", "raw",
 }
@@ -59,10 +59,12 @@ def sources(place):
 
 
 def parts_of_owners(place):
-    """The fields and cases of each record, data type, struct and enum that is defined at a place."""
+    """The fields, cases and functions of each record, data type, struct, enum and trait that is defined at a place."""
     parts = collections.defaultdict(set)
     for path in sources(place):
-        for owner, body in OWNER.findall(path.read_text()):
+        text = path.read_text()
+        bodies = [*OWNER.findall(text), *((bare(block.owner), block.text) for block in blocks_in(text) if path.suffix == ".rt")]
+        for owner, body in bodies:
             parts[owner].update(PART.findall(body))
     return parts
 
@@ -96,7 +98,7 @@ def known_names():
 
 def parameters():
     """The names of what public functions are handed: their promises speak of it."""
-    heads = [head for library in libraries() for _, _, head in public_functions(library)]
+    heads = [function.head for library in libraries() for function in public_functions(library)]
     return {name for head in heads for name in PARAMETER.findall(head)}
 
 
@@ -163,9 +165,9 @@ def sections():
 def not_listed(library, section):
     """The public functions and wrong programs of a library that its section of the promises leaves out."""
     listed = set(cited(section))
-    for _, name, _ in public_functions(library):
-        if name not in listed:
-            yield f"{PROMISES}: {name} of {library.name} is not listed"
+    for function in public_functions(library):
+        if function.name not in listed:
+            yield f"{PROMISES}: {function.name} of {library.name} is not listed"
     for program in programs_of(library.name):
         if program.name not in listed:
             yield f"{PROMISES}: the wrong program {program.name} of {library.name} is not cited"

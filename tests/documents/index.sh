@@ -6,7 +6,7 @@ set -u
 root=$(pwd)
 work=$(mktemp -d) || exit 1
 trap 'rm -rf "$work"' EXIT
-mkdir -p "$work/crates/one/specs"
+mkdir -p "$work/crates/one/specs" "$work/crates/one/src"
 cat >"$work/document" <<'TEXT'
 # Rules
 
@@ -53,6 +53,23 @@ numbers = record {
 }
 CODE
 
+cat >"$work/crates/one/src/lib.rt" <<'CODE'
+// 01, First part.
+
+pub trait Packets {
+    // "It never wraps."
+    fn size() -> usize;
+}
+
+// "A packet has"
+static SIZES: [u8; 2] = [2, 2];
+
+impl<'a> From<u8> for Packet<'a> {
+    // "the fuse is set"
+    ghost from_gives = { Set };
+}
+CODE
+
 # In the small case the index has this ROW.
 has() { # ROW
     grep -qxF -- "$1" "$work/index" || complain "the index has not: $1"
@@ -60,9 +77,10 @@ has() { # ROW
 
 (cd "$work" && python3 -B "$root/tools/make_index.py" document requests index) || complain "make_index.py: status $?"
 has 'Of 6 sentences of document 01 4 are quoted; the others are marked "not quoted".'
-has '| 1.1 | "A packet has two bytes." | `sized` (`crates/one/specs/Rules.antt`) |'
+has '| 1.1 | "A packet has two bytes." | `sized` (`crates/one/specs/Rules.antt`); `SIZES` (`crates/one/src/lib.rt`) |'
 has '| 1.2 | "Others get no reply." | not quoted |'
-has '| 1.4 | "1 the fuse is set" | `sized` (`crates/one/specs/Rules.antt`) |'
+has '| 1.3 | "It never wraps." | `third` (`crates/one/specs/Rules.antt`); `size` (`crates/one/src/lib.rt`) |'
+has '| 1.4 | "1 the fuse is set" | `sized` (`crates/one/specs/Rules.antt`); `Packet` (`crates/one/src/lib.rt`) |'
 has '| 2.1 | "Others get no reply." | `silent` (`crates/one/specs/Rules.antt`) |'
 has '| 2.2 | "Nobody quotes this one, which is .." | not quoted |'
 has '| T-01.1 | "A packet has three bytes." | `third`, `numbers` (`crates/one/specs/Rules.antt`) |'

@@ -50,12 +50,23 @@ def with_those_above(crate, names):
     return known
 
 
+def call_of(module, name):
+    """How a function of a module is called: one of a type or a trait also on a value and on a type parameter, and `from` where `?` turns an error."""
+    owner, _, last = name.rpartition("::")
+    if last in ("from", "try_from"):
+        return re.compile(rf"\b(?:{owner}|Self)::{last}\(|\.(?:try_)?into\(" + (r"|\?" if last == "from" else ""))
+    return re.compile(rf"[.:]{last}\(" if owner else rf"(?:\b{module}::|\bcrate::|(?<!:)\b){last}\(")
+
+
 def called_by(crate, function):
-    """The functions of its crate that a function calls, also through others."""
+    """The functions of its crate that a function calls, also through others. Which of several `from` of a type is called its text does not say,
+    and none of them counts: that one is hidden shows where the wrong programs are tried (tools/refusals.py)."""
+    known = functions_of(crate)
+    many = {name for name, count in collections.Counter(known.values()).items() if count > 1}
     found, todo = set(), [function]
     while todo:
         text = function_text(crate, todo.pop())
-        calls = {other for other in functions_of(crate) if re.search(rf"(?:\b{other[0]}::|\bcrate::|(?<!:)\b){other[1]}\(", text)}
+        calls = {other for other, name in known.items() if name not in many and call_of(other[0], name).search(text)}
         todo += calls - found
         found |= calls
     return found - {function}
@@ -70,7 +81,7 @@ def faults_of(program):
         path = pathlib.Path("crates", program.crate, file)
         if not path.is_file() or path.read_text().count(old) != 1:
             yield f"'{old}' does not stand once in {file}"
-    known = {name for _, name in functions_of(program.crate)}
+    known = set(functions_of(program.crate).values())
     for name in program.functions if known else []:
         if name not in known:
             yield f"{program.crate} has no function {name}"

@@ -33,6 +33,47 @@ impl Kind {
         40
     }
 }
+
+pub trait Layout {
+    fn size() -> u8
+        ensures { λ r. ⌜ r ≡ oneOf 50 ⌝ };
+
+    fn end() -> u8
+        ensures { λ r. ⌜ r ≡ oneOf 60 ⌝ }
+    { Self::size() + 60 }
+}
+
+impl Layout for Kind {
+    fn size() -> u8 {
+        50
+    }
+}
+
+impl From<Reason> for Kind {
+    fn from(reason: Reason) -> Kind {
+        Kind { reason, 70 }
+    }
+}
+
+impl From<u8> for Other {
+    fn from(number: u8) -> Other {
+        Other { number, 80 }
+    }
+}
+
+impl From<u16> for Other {
+    fn from(number: u16) -> Other {
+        Other { number, 81 }
+    }
+}
+
+fn sized<L: Layout>() -> u8 {
+    L::size() + 90
+}
+
+fn turned(asked: Result<u8, Reason>) -> Result<u8, Kind> {
+    Ok(asked? + 91)
+}
 CODE
 printf 'use Prim\n\npub first : N\nfirst = 1\n\npub oneOf : N → N\noneOf n = first + n\n' >"$work/crates/low/specs/One.antt"
 
@@ -67,6 +108,12 @@ says 1 'c: changes what two of b speaks of' both "$in_two" "$(program 'c (one)' 
 says 1 'c: changes three, which calls two of b' both "$in_two" "$(program 'c (three)' src/lib.rt '+ 30')"
 says 1 'docs/STATEMENT.md names it' both "$in_one" "$(program 'signed (two)' src/lib.rt '+ 20')"
 says 0 '' both "$in_one" "$(program 'c (Kind::number)' src/lib.rt 40)"
+says 0 '' both "$in_one" "$(program 'c (Kind::size)' src/lib.rt '        50')" "$(program 'd (Kind::from)' src/lib.rt ' 70')" "$(program 'e (Other::from)' src/lib.rt ' 80')" "$(program 'f (Other::from)' src/lib.rt ' 81')"
+says 1 'c: changes Layout::end, which calls KindLayout::size of b' both "$(program 'b (Kind::size)' src/lib.rt '        50')" "$(program 'c (Layout::end)' src/lib.rt '+ 60')"
+says 1 'c: changes sized, which calls KindLayout::size of b' both "$(program 'b (Kind::size)' src/lib.rt '        50')" "$(program 'c (sized)' src/lib.rt '+ 90')"
+says 1 'c: changes turned, which calls KindFromReason::from of b' both "$(program 'b (Kind::from)' src/lib.rt ' 70')" "$(program 'c (turned)' src/lib.rt '+ 91')"
+says 1 'low has no function From' a "$(program 'a (From)' src/lib.rt ' 70')"
+says 1 'low has no function KindFromReason::from' a "$(program 'a (KindFromReason::from)' src/lib.rt ' 70')"
 says 1 'low has no function four' a "$(program 'a (one, four)' src/lib.rt '+ 10')"
 says 1 'low has no function number' a "$(program 'a (number)' src/lib.rt 40)"
 says 1 "'u8' does not stand once in src/lib.rt" a "$(program 'a (one)' src/lib.rt u8)"

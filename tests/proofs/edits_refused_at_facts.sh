@@ -59,6 +59,27 @@ says 1 'two_more: no error of its own' "$at_callee $fact" 'fn low::caller: not p
 says 1 'one_less: refused, and not at a fact' "$at_callee error: \`x\` has no field \`y\`" "$at_callee $fact" "$at_caller $fact"
 says 1 'one_less: refused, and not at a fact' "$at_callee error: \`x\`: of a record" '  has no field `y`' "$at_callee $fact" "$at_caller $fact"
 rm "$work/said/low/both.log"
+
+# What a type has of a trait stands in a folder with both their names.
+cat >>"$work/crates/low/src/lib.rt" <<'CODE'
+
+impl From<Reason> for Kind {
+    fn from(reason: Reason) -> Kind {
+        Kind { reason, 5 }
+    }
+}
+CODE
+printf '# five_less (Kind::from): five less\nfile: src/lib.rt\nold: , 5\nnew: , 0\n' >"$work/crates/low/must-fail/five_less.edit"
+file=five_less
+printf '%s\n' "$at_callee $fact" "$at_caller $fact" >"$work/said/low/both.log"
+says 0 '' "./proofs/KindFromReason/from/Answers.antt:1:2: $fact"
+says 0 '' "fn low::KindFromReason::from: $open_fact"
+says 1 'five_less: no error of its own in the proof of KindFromReason::from' "./proofs/KindFromOther/from/Answers.antt:1:2: $fact"
+says 1 'five_less: no error of its own' "fn low::callee: $open_fact"
+sed -i "s/^impl From<Reason> for Kind/impl<'a, L: Layout, const N: usize> From<\&'a other::Reason<L>> for Kind<'a, N>/" "$work/crates/low/src/lib.rt"
+says 0 '' "./proofs/KindFromRefReason/from/Answers.antt:1:2: $fact"
+rm "$work/crates/low/must-fail/five_less.edit" "$work/said/low/both.log" "$work/said/low/five_less.log"
+file=both
 wanted=1 words='no log of its refusal'
 told --said said
 

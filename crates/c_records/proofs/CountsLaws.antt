@@ -1,5 +1,5 @@
 -- The counts of a mended image: stored piece by piece, and beside the answers of the tool.
-use mathlib.Core.Path.{◌≡◌, refl, ap}
+use mathlib.Core.Path.{◌≡◌, refl, sym, ap, ◌∙◌}
 use mathlib.Core.Bool.{not}
 use mathlib.Core.List.{List}
 use Prim.Native.Nat.{ℕ}
@@ -10,6 +10,7 @@ use lib.Seq.{sets}
 use Rattle.octets.specs.Choice.{pick}
 use Rattle.octets.specs.Number.{bytes_of}
 use Rattle.octets.proofs.Searching.{by_test}
+use Rattle.octets.proofs.StoreLaws.{stored_whole}
 use Rattle.settings_mend.specs.declared.Changes.{Changes}
 use Rattle.settings_mend.specs.Mending.{MendLeft, mend_of}
 use Rattle.settings_mend.specs.Examining.{examined_of, examined_number}
@@ -22,20 +23,20 @@ use Rattle.c_records.specs.MendFromC.{counts_of, mend_stored, mend_from_c}
 pub counts_joined : (changes : Changes)
     → sets (sets (sets (sets (replicate 8 0) 0 (bytes_of 2 changes.table)) 2 (bytes_of 2 changes.filler)) 4 (bytes_of 2 changes.values)) 6 (bytes_of 2 changes.checksum)
     ≡ counts_of changes
-unfolding counts_of bytes_of sets
+unfolding counts_of bytes_of
 counts_joined changes = refl
 
-pub length_counts : (changes : Changes) → length (counts_of changes) ≡ 8
+length_counts : (changes : Changes) → length (counts_of changes) ≡ 8
 unfolding counts_of bytes_of
 length_counts changes = refl
 
 -- what is stored beside the tool's answer, in an area of the right size
 pub stored_beside : (image area : List ℕ) → length area ≡ 8 → (left : MendLeft) → left ≡ mend_of image → (after : Stored)
-    → after ≡ pick (not (eqb left.told.number 0)) (stored (refusal left.told.number) area) (stored 0 (counts_of left.told.changes))
+    → after ≡ pick (not (eqb left.told.number 0)) (stored (refusal left.told.number) area) (stored 0 (sets area 0 (counts_of left.told.changes)))
     → mend_stored after.answer left.image after.area ≡ mend_from_c image area
 unfolding mend_from_c pick
 stored_beside image area size left is after e =
-    rw (e, is)
+    rw (e, is, stored_whole area (counts_of (mend_of image).told.changes) (size ∙ sym (length_counts (mend_of image).told.changes)))
     (by_test (eqb (mend_of image).told.number 0)
     (λ y. rw (y, eq-eqb (length area) 8 size))
     (λ n. rw n (ap (λ (l : List ℕ). mend_stored (refusal (mend_of image).told.number) l area) (refused_mend_keeps image (eqb-false _ _ n)))))

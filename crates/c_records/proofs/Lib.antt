@@ -7,3 +7,5 @@ pub mod RecordAgain
 pub mod FieldsLaws
 -- CountsLaws: the counts of a mended image stored, beside the answers of the tool.
 pub mod CountsLaws
+-- ServedLaws: what the session's call leaves, told to C.
+pub mod ServedLaws

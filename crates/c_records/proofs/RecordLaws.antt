@@ -1,7 +1,7 @@
 -- Stored piece by piece, the pieces make a record.
 use mathlib.Core.Path.{◌≡◌, refl, sym, ap, ◌∙◌}
 use mathlib.Core.Bool.{true}
-use mathlib.Core.List.{List, [], ◌∷◌, ◌++◌}
+use mathlib.Core.List.{List, ◌++◌}
 use mathlib.Core.Logic.{◌⊎◌, inl, inr, ⊎_elim}
 use Prim.Native.Nat.{ℕ, ◌≤◌}
 use native.Mathlib.Omega.{arith}
@@ -13,11 +13,10 @@ use Rattle.octets.specs.Number.{bytes_of}
 use Rattle.octets.proofs.Searching.{pick_both, by_pick}
 use Rattle.octets.proofs.StoreLaws.{sets_out, sets_join, stored_whole}
 use Rattle.parts.specs.declared.Part.{Part}
-use Rattle.session_state.specs.declared.Standing.{Standing}
 use Rattle.settings.specs.Kept.{kept_bodies}
 use Rattle.settings_large.specs.Image.{large_size}
 use Rattle.session.specs.declared.Session.{Session}
-use Rattle.c_records.specs.Records.{record_size, phase_code, lock_code, sleep_of, counters_bytes, standing_bytes, record_bytes, is_record_area}
+use Rattle.c_records.specs.Records.{record_size, counters_bytes, standing_bytes, record_bytes, record_of, is_record_area}
 
 -- a record has 94 bytes or 118
 pub two_sizes : (board : Part) → (record_size board ≡ 94) ⊎ (record_size board ≡ 118)
@@ -49,24 +48,20 @@ counters_joined area sleep idle tries =
     sets_join (sets area 4 (bytes_of 4 sleep)) 8 12 (bytes_of 4 idle) (bytes_of 4 tries) refl
     ∙ sets_join area 4 8 (bytes_of 4 sleep) (bytes_of 4 idle ++ bytes_of 4 tries) refl
 
--- how a session stands: four bytes, and what it counts
-pub standing_joined : (area : List ℕ) (standing : Standing)
-    → sets (sets area 0 (phase_code standing.phase ∷ lock_code standing.phase ∷ standing.wrong ∷ standing.rate ∷ [])) 4
-    (counters_bytes (sleep_of standing.phase) standing.idle standing.tries)
-    ≡ sets area 0 (standing_bytes standing)
-standing_joined area standing =
-    sets_join area 0 4 (phase_code standing.phase ∷ lock_code standing.phase ∷ standing.wrong ∷ standing.rate ∷ [])
-    (counters_bytes (sleep_of standing.phase) standing.idle standing.tries) refl
-
--- then the size of MAIN and the fields
-pub record_joined : (area : List ℕ) (session : Session) → length area ≤ 118 → length (kept_bodies session.settings) ≡ 98
+-- how a session stands, then the size of MAIN and the fields
+pub record_joined : (area : List ℕ) (session : Session)
     → sets (sets (sets area 0 (standing_bytes session.standing)) 16 (bytes_of 4 session.main_size)) 20 (kept_bodies session.settings)
-    ≡ take (length area) (record_bytes session)
+    ≡ sets area 0 (record_bytes session)
 unfolding record_bytes bytes_of
-record_joined area session size fields =
+record_joined area session =
     let front : List ℕ = standing_bytes session.standing in
     let main : List ℕ = bytes_of 4 session.main_size in
-    let rest : List ℕ = kept_bodies session.settings in
-    sets_join (sets area 0 front) 16 20 main rest refl
-    ∙ sets_join area 0 16 front (main ++ rest) refl
-    ∙ stored_taken area (front ++ (main ++ rest)) (omega arith)
+    sets_join (sets area 0 front) 16 20 main (kept_bodies session.settings) refl
+    ∙ sets_join area 0 16 front (main ++ kept_bodies session.settings) refl
+
+-- which an area of a record's size has no room for beyond that size
+pub record_stored : (board : Part) (session : Session) (area : List ℕ) → length area ≡ record_size board → length (kept_bodies session.settings) ≡ 98
+    → sets area 0 (record_bytes session) ≡ record_of board session
+unfolding record_bytes bytes_of
+record_stored board session area size fields =
+    stored_taken area (record_bytes session) (omega (arith, size, fields, (record_sizes board).1)) ∙ ap (λ (size : ℕ). take size (record_bytes session)) size

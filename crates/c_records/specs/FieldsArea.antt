@@ -1,10 +1,11 @@
 -- T-09, the fields area that C lends beside a settings image: the six bodies, the name and the form.
-use Rattle.std.specs.Prelude.{ℕ, Bool, true, List, ◌++◌, eqb}
+use Rattle.std.specs.Prelude.{◌≡◌, ℕ, Bool, true, false, List, ◌++◌, Result, MatchResult, eqb}
 use Rattle.octets.specs.Choice.{pick}
 use Rattle.octets.specs.Number.{bytes_of, part, number_at}
 use Rattle.settings.specs.declared.Form.{Form}
 use Rattle.settings.specs.declared.Form.TheVariants.{One, Two}
-use Rattle.settings.specs.declared.Contents.{Contents}
+use Rattle.settings.specs.declared.UnknownForm.{UnknownForm}
+use Rattle.settings.specs.Held.{Contents}
 use Rattle.settings.specs.Layout.{form1, layout_of}
 use Rattle.settings.specs.Bodies.{bodies_of}
 use Rattle.settings.specs.Fields.{fields_read, kept_size}
@@ -39,3 +40,9 @@ contents_read fields = record {
   settings = fields_read form1 (part 0 kept_size fields);
   name = part name_at name_size fields;
 }
+
+-- what is told of an area: what it says, where its number names a form
+abbrev pub Says : List ℕ → Result Contents UnknownForm → Type 0
+Says fields told =
+    MatchResult told (λ contents. (is_form_number (number_at form_at 2 fields) ≡ true) × (contents ≡ contents_read fields))
+    (λ none. is_form_number (number_at form_at 2 fields) ≡ false)

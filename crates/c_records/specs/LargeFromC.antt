@@ -7,7 +7,7 @@ use Rattle.settings.specs.Layout.{layout_of}
 use Rattle.settings.specs.Fields.{zero_at}
 use Rattle.settings.specs.Kept.{long_size, kept_bodies, kept_read}
 use Rattle.settings.specs.Answers.{numbered}
-use Rattle.settings_large.specs.declared.LargeContents.{LargeContents}
+use Rattle.settings_large.specs.Contents.{LargeContents}
 use Rattle.settings_large.specs.Contents.{contents_of}
 use Rattle.settings_large.specs.Image.{large_size}
 use Rattle.settings_large.specs.Reader.{read_of}

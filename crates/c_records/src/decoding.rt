@@ -56,16 +56,11 @@ pub(crate) fn session_in(area: &[u8]) -> Session
 fn phase_fits(code: u8, lock: u8, sleep: u32) -> bool
     ensures { result ≡ phase_fits code lock sleep }
 {
-    if code == 1 {
-        return lock <= 1;
+    match code {
+        1 => lock <= 1,
+        0..=4 => lock == 0 && sleep == 0,
+        _ => false,
     }
-    if 4 < code {
-        return false;
-    }
-    if lock != 0 {
-        return false;
-    }
-    sleep == 0
 }
 
 // How many bytes a record has on this part.
@@ -84,12 +79,11 @@ pub(crate) fn record_size(part: Part) -> usize
 pub(crate) fn is_record_area(part: Part, area: &[u8]) -> bool
     ensures { result ≡ is_record_area part area.now }
 {
+    // the size by itself: in one expression with the bytes they are read before it, in every call
     if area.len() != record_size(part) {
         return false;
     }
     let sleep = octets::number32_at(area, SLEEP_AT);
-    if !phase_fits(octets::byte_at(area, 0), octets::byte_at(area, 1), sleep) {
-        return false;
-    }
-    octets::byte_at(area, ZERO_AT) == 0
+    phase_fits(octets::byte_at(area, 0), octets::byte_at(area, 1), sleep)
+        && octets::byte_at(area, ZERO_AT) == 0
 }

@@ -1,5 +1,5 @@
 // A session as bytes.
-ghost use Rattle.std.specs.Prelude.{◌≡◌, ◌≤◌, length, take};
+ghost use Rattle.std.specs.Prelude.{◌≡◌};
 ghost use Rattle.std.proofs.lemmas.List.Edits.{sets};
 ghost use Rattle.c_records.specs.Records.{phase_code, lock_code, sleep_of, counters_bytes, standing_bytes, record_bytes};
 
@@ -7,48 +7,39 @@ use crate::{FIELDS_AT, IDLE_AT, MAIN_SIZE_AT, SLEEP_AT, TRIES_AT};
 use session::Session;
 use session_state::{Phase, Standing};
 
-fn phase_code(phase: Phase) -> u8
-    ensures { result ≡ phase_code phase }
-{
-    match phase {
-        Phase::Detect => 0,
-        Phase::Command {
-            unlocked: _,
-            sleep: _,
-        } => 1,
-        Phase::Standby => 2,
-        Phase::Ended => 3,
-        Phase::Disabled => 4,
-    }
+// What a phase is told by in a record. Lock and sleep are 0 outside the command phase.
+#[derive(Clone, Copy, Debug, Default, PartialEq, Eq)]
+struct PhaseBytes {
+    code: u8,
+    lock: u8,
+    sleep: u32,
 }
 
-#[tactic(auto, unfolding(octets::specs::Choice::pick))]
-fn lock_code(phase: Phase) -> u8
-    ensures { result ≡ lock_code phase }
-{
-    match phase {
-        Phase::Detect => 0,
-        Phase::Command { unlocked, sleep: _ } => {
-            if unlocked {
-                return 1;
-            }
-            0
+impl From<Phase> for PhaseBytes {
+    ghost from_gives = { λ phase bytes. (bytes.code ≡ phase_code phase) × (bytes.lock ≡ lock_code phase) × (bytes.sleep ≡ sleep_of phase) };
+
+    #[tactic(auto, unfolding(octets::specs::Choice::pick))]
+    fn from(phase: Phase) -> PhaseBytes {
+        match phase {
+            Phase::Detect => PhaseBytes::default(),
+            Phase::Command { unlocked, sleep } => PhaseBytes {
+                code: 1,
+                lock: u8::from(unlocked),
+                sleep,
+            },
+            Phase::Standby => PhaseBytes {
+                code: 2,
+                ..PhaseBytes::default()
+            },
+            Phase::Ended => PhaseBytes {
+                code: 3,
+                ..PhaseBytes::default()
+            },
+            Phase::Disabled => PhaseBytes {
+                code: 4,
+                ..PhaseBytes::default()
+            },
         }
-        Phase::Standby => 0,
-        Phase::Ended => 0,
-        Phase::Disabled => 0,
-    }
-}
-
-fn sleep_of(phase: Phase) -> u32
-    ensures { result ≡ sleep_of phase }
-{
-    match phase {
-        Phase::Detect => 0,
-        Phase::Command { unlocked: _, sleep } => sleep,
-        Phase::Standby => 0,
-        Phase::Ended => 0,
-        Phase::Disabled => 0,
     }
 }
 
@@ -66,22 +57,16 @@ fn put_counters(area: &mut [u8], sleep: u32, idle: u32, tries: u32)
 pub(crate) fn put_standing(area: &mut [u8], standing: Standing)
     ensures { area.new ≡ sets area.old 0 (standing_bytes standing) }
 {
-    let phase = standing.phase;
-    let front = [
-        phase_code(phase),
-        lock_code(phase),
-        standing.wrong,
-        standing.rate,
-    ];
+    let phase = PhaseBytes::from(standing.phase);
+    let front = [phase.code, phase.lock, standing.wrong, standing.rate];
     octets::put(area, 0, &front);
-    put_counters(area, sleep_of(phase), standing.idle, standing.tries);
+    put_counters(area, phase.sleep, standing.idle, standing.tries);
 }
 
-// Stores a session into an area, of either record's size: what has no room there is not stored.
-#[tactic(auto, using(crate::proofs::RecordLaws::record_joined, settings::proofs::BodyLaws::length_kept))]
+// Stores a session over the front of an area: what has no room there is not stored.
+#[tactic(auto, using(crate::proofs::RecordLaws::record_joined))]
 pub(crate) fn put_record(area: &mut [u8], session: Session)
-    requires { length area.old ≤ 118 }
-    ensures { area.new ≡ take (length area.old) (record_bytes session) }
+    ensures { area.new ≡ sets area.old 0 (record_bytes session) }
 {
     let settings = session.settings;
     put_standing(area, session.standing);

@@ -1,79 +1,29 @@
 // The fields area beside a settings image: contents as bytes, and bytes as contents.
-ghost use Rattle.std.specs.Prelude.{◌≡◌, length};
-ghost use Rattle.octets.specs.Number.{part};
-ghost use Rattle.settings.specs.Layout.{layout_of};
-ghost use Rattle.c_records.specs.FieldsArea.{fields_of, is_form_number, form_numbered, contents_read};
+ghost use Rattle.std.specs.Prelude.{◌≡◌};
+ghost use Rattle.std.proofs.lemmas.List.Edits.{sets};
+ghost use Rattle.c_records.specs.FieldsArea.{fields_of, Says};
 
-use crate::{FORM_AT, NAME_AT};
-use settings::{Contents, Form};
+use crate::{FIELDS_AREA_SIZE, FORM_AT, NAME_AT};
+use settings::{Contents, Form, UnknownForm};
 
-pub(crate) fn number_of(form: Form) -> u32
-    ensures { result ≡ (layout_of form).form }
-{
-    match form {
-        Form::One => 1,
-        Form::Two => 2,
-    }
-}
-
-// Stores the fields of some contents into an area of their size.
-#[tactic(auto, using(crate::proofs::FieldsLaws::fields_joined, settings::proofs::BodyLaws::length_bodies))]
+// Stores the fields of some contents over the front of an area.
+#[tactic(auto, using(crate::proofs::FieldsLaws::fields_joined, settings::proofs::BodyLaws::length_bodies), unfolding(crate::specs::FieldsArea::fields_of))]
 pub(crate) fn put_contents(area: &mut [u8], contents: Contents)
-    requires { length area.old ≡ 140 }
-    ensures { area.new ≡ fields_of contents }
+    ensures { area.new ≡ sets area.old 0 (fields_of contents) }
 {
-    let form = contents.form;
-    let name = contents.name;
     settings::put_fields(area, 0, contents.settings);
-    octets::put(area, NAME_AT, &name);
-    octets::put_number(area, FORM_AT, 2, number_of(form));
+    octets::put(area, NAME_AT, &contents.name);
+    octets::put_number(area, FORM_AT, 2, u32::from(u16::from(contents.form)));
 }
 
-// Whether a number names a form, and which.
-#[tactic(auto, unfolding(crate::specs::FieldsArea::is_form_number, octets::specs::Choice::pick))]
-pub(crate) fn is_form_number(number: u16) -> bool
-    ensures { result ≡ is_form_number number }
+// The contents that an area of their size says, where its number names a form.
+#[tactic(auto, using(crate::proofs::FieldsLaws::name_taken, crate::proofs::FieldsLaws::form_named, crate::proofs::FieldsLaws::no_form_named))]
+pub(crate) fn contents_in(fields: &[u8; FIELDS_AREA_SIZE]) -> Result<Contents, UnknownForm>
+    ensures { Says fields.now result }
 {
-    if number == 1 {
-        return true;
-    }
-    number == 2
-}
-
-#[tactic(auto, unfolding(crate::specs::FieldsArea::form_numbered, octets::specs::Choice::pick))]
-fn form_numbered(number: u16) -> Form
-    ensures { result ≡ form_numbered number }
-{
-    if number == 2 {
-        return Form::Two;
-    }
-    Form::One
-}
-
-fn name_in(fields: &[u8]) -> [u8; 64]
-    requires { length fields.now ≡ 140 }
-    ensures { result ≡ part 74 64 fields.now }
-{
-    let mut name = [0u8; settings::NAME_SIZE];
-    octets::put(
-        &mut name,
-        0,
-        octets::part_of(fields, NAME_AT, settings::NAME_SIZE),
-    );
-    name
-}
-
-// The contents that an area of their size says.
-pub(crate) fn contents_in(fields: &[u8]) -> Contents
-    requires { length fields.now ≡ 140 }
-    ensures { result ≡ contents_read fields.now }
-{
-    let form = form_numbered(octets::number16_at(fields, FORM_AT));
-    let settings = settings::read_fields(octets::part_of(fields, 0, settings::FIELDS_SIZE));
-    let name = name_in(fields);
-    Contents {
-        form,
-        settings,
-        name,
-    }
+    Ok(Contents {
+        form: Form::try_from(octets::number16_at(fields, FORM_AT))?,
+        settings: settings::read_fields(octets::part_of(fields, 0, settings::FIELDS_SIZE)),
+        name: octets::array_at(fields, NAME_AT),
+    })
 }

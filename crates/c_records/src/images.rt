@@ -1,38 +1,27 @@
 // The settings image from C.
 ghost use Rattle.std.specs.Prelude.{◌≡◌};
-ghost use Rattle.settings.specs.Answers.{read_numbered};
-ghost use Rattle.c_records.specs.Stored.{stored, stored_by};
-ghost use Rattle.c_records.specs.FieldsArea.{fields_area_size, fields_of};
+ghost use Rattle.c_records.specs.Stored.{stored};
 ghost use Rattle.c_records.specs.SettingsFromC.{read_from_c, write_from_c, to_one_from_c, to_two_from_c};
 
+use crate::numbers::Number;
 use crate::{
-    FIELDS_AREA_SIZE, FORM_AT, FORM_UNKNOWN, RECORD_NOT_VALID, SETTINGS_SIZE_WRONG,
-    VALUE_NOT_ALLOWED, fields, settings_answers,
+    FIELDS_AREA_SIZE, FORM_UNKNOWN, RECORD_NOT_VALID, SETTINGS_SIZE_WRONG, VALUE_NOT_ALLOWED,
+    fields, settings_answers,
 };
-use settings::Reading;
-
-// Stores the fields of contents that were read.
-#[tactic(auto, unfolding(crate::specs::Stored::stored_by, octets::specs::Choice::pick))]
-fn store_fields(reading: Reading, area: &mut [u8]) -> u64
-    ensures { stored result area.new ≡ stored_by (read_numbered reading.answer) fields_area_size (fields_of reading.contents) area.old }
-{
-    let answer = reading.answer;
-    let refusal = settings_answers::of_read(answer);
-    if refusal != 0 {
-        return refusal;
-    }
-    if area.len() != FIELDS_AREA_SIZE {
-        return RECORD_NOT_VALID;
-    }
-    fields::put_contents(area, reading.contents);
-    0
-}
 
 // Reads a settings image, and stores its fields.
+#[tactic(auto, using(crate::proofs::FieldsLaws::fields_stored, settings::proofs::BodyLaws::length_bodies, settings::proofs::ReaderLaws::refuses), unfolding(crate::specs::FieldsArea::fields_of, crate::specs::Stored::stored_by, octets::specs::Choice::pick))]
 pub fn read_image(image: &[u8], fields: &mut [u8]) -> u64
     ensures { stored result fields.new ≡ read_from_c image.now fields.old }
 {
-    store_fields(settings::read(image), fields)
+    match settings::read(image) {
+        Ok(_) if fields.len() != FIELDS_AREA_SIZE => RECORD_NOT_VALID,
+        Ok(contents) => {
+            fields::put_contents(fields, contents);
+            0
+        }
+        Err(refusal) => Number::from(refusal).value,
+    }
 }
 
 // Writes the settings image of some fields.
@@ -43,19 +32,22 @@ pub fn write_image(fields: &[u8], image: &mut [u8]) -> u64
     if image.len() != settings::IMAGE_SIZE {
         return SETTINGS_SIZE_WRONG;
     }
-    if fields.len() != FIELDS_AREA_SIZE {
+    let Ok(fields) = <&[u8; FIELDS_AREA_SIZE]>::try_from(fields) else {
         return RECORD_NOT_VALID;
-    }
-    if !fields::is_form_number(octets::number16_at(fields, FORM_AT)) {
+    };
+    let Ok(contents) = fields::contents_in(fields) else {
         return FORM_UNKNOWN;
-    }
+    };
     if octets::byte_at(fields, settings::ZERO_AT) != 0 {
         return VALUE_NOT_ALLOWED;
     }
-    settings_answers::of_write(settings::write(fields::contents_in(fields), image))
+    match settings::write(contents, image) {
+        Ok(()) => 0,
+        Err(error) => Number::from(error).value,
+    }
 }
 
-// Moves a settings image to the other form, where it lies.
+// Moves a settings image to the other form, where it lies. What a move answers is a value, which `of_move` takes: no closure is needed.
 pub fn move_to_form_2(image: &mut [u8]) -> u64
     ensures { stored result image.new ≡ to_two_from_c image.old }
 {

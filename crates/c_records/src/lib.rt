@@ -27,7 +27,7 @@ pub const REFUSAL_UNIT: u64 = 0x0100_0000_0000_0000;
 
 pub(crate) const BURN_UNIT: u64 = 0x0000_0001_0000_0000;
 
-// Numbers of refused calls.
+// Numbers of refused calls, by themselves and not as an enum: C is answered with them, and include/bhorelmu.h has the same.
 pub(crate) const FUSE_SET: u64 = REFUSAL_UNIT;
 
 pub(crate) const MAIN_SIZE_WRONG: u64 = 2 * REFUSAL_UNIT;

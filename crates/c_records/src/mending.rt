@@ -1,5 +1,6 @@
 // Mending a settings image from C.
-ghost use Rattle.std.specs.Prelude.{◌≡◌, not, eqb, length};
+ghost use Rattle.std.specs.Prelude.{◌≡◌, not, eqb, Err};
+ghost use Rattle.std.proofs.lemmas.List.Edits.{sets};
 ghost use Rattle.octets.specs.Choice.{pick};
 ghost use Rattle.settings_mend.specs.Examining.{examined_number};
 ghost use Rattle.settings_mend.specs.Mending.{mend_told};
@@ -7,19 +8,31 @@ ghost use Rattle.c_records.specs.OneNumber.{refusal};
 ghost use Rattle.c_records.specs.Stored.{stored};
 ghost use Rattle.c_records.specs.MendFromC.{counts_of, mend_stored, mend_from_c};
 
+use crate::numbers::Number;
 use crate::{COUNTS_SIZE, FORM_UNKNOWN, RECORD_NOT_VALID, SETTINGS_SIZE_WRONG};
-use settings_mend::{Changes, Examined, MendAnswer};
+use settings_mend::{Changes, Examined, MendError};
+
+impl From<MendError> for Number {
+    ghost from_gives = { λ error number. number.value ≡ refusal (examined_number (Err error)) };
+
+    #[tactic(auto, unfolding(octets::specs::Choice::pick))]
+    fn from(error: MendError) -> Number {
+        let value = match error {
+            MendError::SizeWrong => SETTINGS_SIZE_WRONG,
+            MendError::FormTwo => FORM_UNKNOWN,
+        };
+        Number { value }
+    }
+}
 
 // What is answered where the counts have no place: the image's own refusal, if there is one.
 #[tactic(auto, unfolding(octets::specs::Choice::pick))]
-fn of_examined(examined: Examined) -> u64
+fn of_examined(examined: Result<Examined, MendError>) -> u64
     ensures { result ≡ pick (not (eqb (examined_number examined) 0)) (refusal (examined_number examined)) (refusal 10) }
 {
     match examined {
-        Examined::SizeWrong => SETTINGS_SIZE_WRONG,
-        Examined::Accepted => RECORD_NOT_VALID,
-        Examined::FormTwo => FORM_UNKNOWN,
-        Examined::Damaged => RECORD_NOT_VALID,
+        Ok(_) => RECORD_NOT_VALID,
+        Err(error) => Number::from(error).value,
     }
 }
 
@@ -28,27 +41,24 @@ fn counts_of(changes: Changes) -> [u8; 8]
     ensures { result ≡ counts_of changes }
 {
     let mut counts = [0u8; COUNTS_SIZE];
-    octets::put_number(&mut counts, 0, 2, changes.table as u32);
-    octets::put_number(&mut counts, 2, 2, changes.filler as u32);
-    octets::put_number(&mut counts, 4, 2, changes.values as u32);
-    octets::put_number(&mut counts, 6, 2, changes.checksum as u32);
+    octets::put_number(&mut counts, 0, 2, u32::from(changes.table));
+    octets::put_number(&mut counts, 2, 2, u32::from(changes.filler));
+    octets::put_number(&mut counts, 4, 2, u32::from(changes.values));
+    octets::put_number(&mut counts, 6, 2, u32::from(changes.checksum));
     counts
 }
 
 // Stores the counts of an image that was not refused.
-#[tactic(auto, using(octets::proofs::StoreLaws::stored_whole, crate::proofs::CountsLaws::length_counts), unfolding(octets::specs::Choice::pick))]
-fn store_counts(answer: MendAnswer, area: &mut [u8]) -> u64
-    requires { length area.old ≡ 8 }
-    ensures { stored result area.new ≡ pick (not (eqb (mend_told answer).number 0)) (stored (refusal (mend_told answer).number) area.old) (stored 0 (counts_of (mend_told answer).changes)) }
+#[tactic(auto, unfolding(octets::specs::Choice::pick))]
+fn store_counts(mended: Result<Changes, MendError>, area: &mut [u8]) -> u64
+    ensures { stored result area.new ≡ pick (not (eqb (mend_told mended).number 0)) (stored (refusal (mend_told mended).number) area.old) (stored 0 (sets area.old 0 (counts_of (mend_told mended).changes))) }
 {
-    match answer {
-        MendAnswer::Mended(changes) => {
-            let counts = counts_of(changes);
-            octets::put(area, 0, &counts);
+    match mended {
+        Ok(changes) => {
+            octets::put(area, 0, &counts_of(changes));
             0
         }
-        MendAnswer::SizeWrong => SETTINGS_SIZE_WRONG,
-        MendAnswer::FormTwo => FORM_UNKNOWN,
+        Err(error) => Number::from(error).value,
     }
 }
 

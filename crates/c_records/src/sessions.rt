@@ -1,40 +1,22 @@
 // What C calls of a session, for any part. Any area of any size has an answer, and a refusal changes no byte.
-ghost use Rattle.std.specs.Prelude.{◌≡◌, ◌≤◌, ◌<◌, take};
+ghost use Rattle.std.specs.Prelude.{◌≡◌, ◌<◌};
 ghost use Rattle.std.proofs.lemmas.List.Edits.{sets};
 ghost use Rattle.flash.specs.Memory.{memory};
-ghost use Rattle.session.specs.StartAnswers.{start_numbered};
-ghost use Rattle.session.specs.CallAnswers.{call_numbered};
-ghost use Rattle.c_records.specs.Stored.{stored, stored_by};
-ghost use Rattle.c_records.specs.Records.{standing_bytes, record_bytes, record_of};
-ghost use Rattle.c_records.specs.Boundary.{stored_after, start_from_c, called, call_from_c};
+ghost use Rattle.c_records.specs.OneNumber.{one_number};
+ghost use Rattle.c_records.specs.Stored.{stored};
+ghost use Rattle.c_records.specs.Records.{standing_bytes};
+ghost use Rattle.c_records.specs.Boundary.{start_from_c, called, call_from_c};
 
+use crate::numbers::Number;
 use crate::{
     RECORD_NOT_VALID, REPLY_AREA_TOO_SMALL, WINDOW_SIZE_WRONG, decoding, encoding, session_answers,
 };
 use line::codes;
 use parts::Part;
-use session::{CallAnswer, Called, Started};
-
-// Stores the record of a session that was started, of a size.
-#[tactic(auto, unfolding(crate::specs::Stored::stored_by, octets::specs::Choice::pick))]
-fn store_record(size: usize, started: Started, area: &mut [u8]) -> u64
-    requires { size ≤ 118 }
-    ensures { stored result area.new ≡ stored_by (start_numbered started.answer) size (take size (record_bytes started.session)) area.old }
-{
-    let answer = started.answer;
-    let refusal = session_answers::of_start(answer);
-    if refusal != 0 {
-        return refusal;
-    }
-    if area.len() != size {
-        return RECORD_NOT_VALID;
-    }
-    encoding::put_record(area, started.session);
-    0
-}
+use session::Called;
 
 // Starts a session on a board of this part, and stores its record. Any fuse but 0 is set.
-#[tactic(auto, using(crate::proofs::RecordLaws::record_sizes))]
+#[tactic(auto, using(crate::proofs::RecordLaws::record_stored, settings::proofs::BodyLaws::length_kept, session::proofs::StartLaws::errs), unfolding(crate::specs::Stored::stored_by, octets::specs::Choice::pick))]
 pub fn start_record(
     part: Part,
     fuse: u32,
@@ -45,30 +27,23 @@ pub fn start_record(
 ) -> u64
     ensures { stored result area.new ≡ start_from_c part fuse main.now settings.now window.now area.old }
 {
-    store_record(
-        decoding::record_size(part),
-        session::start(part, fuse != 0, main, settings, window),
-        area,
-    )
+    match session::start(part, fuse != 0, main, settings, window) {
+        Ok(_) if area.len() != decoding::record_size(part) => RECORD_NOT_VALID,
+        Ok(session) => {
+            encoding::put_record(area, session);
+            0
+        }
+        Err(error) => Number::from(error).value,
+    }
 }
 
 // Stores the record of a call that was not refused, and makes one number of its answer. Only how the session stands can have changed.
-#[tactic(auto, unfolding(crate::specs::Boundary::stored_after, octets::specs::Choice::pick))]
-fn store_called(part: Part, call: Called, area: &mut [u8]) -> u64
-    requires { (sets area.old 0 (standing_bytes call.session.standing) ≡ record_of part call.session) × ((call_numbered call.answer).size < 4294967296) }
-    ensures { stored result area.new ≡ stored_after (call_numbered call.answer) (record_of part call.session) area.old }
+fn store_called(called: Called, area: &mut [u8]) -> u64
+    requires { called.size < 4294967296 }
+    ensures { (result ≡ one_number 0 called.burn called.size) × (area.new ≡ sets area.old 0 (standing_bytes called.session.standing)) }
 {
-    let answer = call.answer;
-    match answer {
-        CallAnswer::Done { size, burn } => {
-            let session = call.session;
-            encoding::put_standing(area, session.standing);
-            session_answers::done(burn, size)
-        }
-        CallAnswer::ReplyAreaTooSmall => REPLY_AREA_TOO_SMALL,
-        CallAnswer::WindowSizeWrong => WINDOW_SIZE_WRONG,
-        CallAnswer::RecordNotValid => RECORD_NOT_VALID,
-    }
+    encoding::put_standing(area, called.session.standing);
+    session_answers::done(called.burn, called.size)
 }
 
 // A call of the session whose record the area holds, on a board of this part.
@@ -104,5 +79,8 @@ pub fn call_record(
         packet,
         reply,
     );
-    store_called(part, call, area)
+    match call {
+        Ok(called) => store_called(called, area),
+        Err(error) => Number::from(error).value,
+    }
 }

@@ -7,8 +7,8 @@ pub mod Steps
 pub mod Laws
 -- Parts: bytes in a loop, and bytes as a number.
 pub mod Parts
--- Halves: a number below 16 that is none of the first fifteen.
-pub mod Halves
+-- Chunks: a table of rows, and bytes as arrays of four and of eight.
+pub mod Chunks
 -- Sparse: four bits for one.
 pub mod Sparse
 -- Queue: lanes that wait for their bytes.

@@ -51,18 +51,6 @@ as_number bytes small (suc count) sum at h =
     ∙ sym (bits_add 8 (8 * count) (bit_xor sum (byte + 256 * more)))
     ∙ ap (λ (n : ℕ). bits_on n (bit_xor sum (byte + 256 * more))) all)
 
--- eight bytes as two words
-pub number_of_eight : (bytes : List ℕ) (at : ℕ) → at + 8 ≤ length bytes
-    → number_at at 8 bytes ≡ number_at at 4 bytes + 4294967296 * number_at (at + 4) 4 bytes
-unfolding number_of
-number_of_eight bytes at h =
-    let four : at + 4 ≡ suc (suc (suc (suc at))) = omega arith in
-    let first : at < length bytes = omega arith in
-    let second : suc at < length bytes = omega arith in
-    let third : suc (suc at) < length bytes = omega arith in
-    let fourth : suc (suc (suc at)) < length bytes = omega arith in
-    rw (four, drop-cons bytes at 0, drop-cons bytes (suc at) 0, drop-cons bytes (suc (suc at)) 0, drop-cons bytes (suc (suc (suc at))) 0) (omega arith)
-
 -- a turn of the loop over words of four bytes
 pub word_turn : (bytes : List ℕ) → ((k : ℕ) → get_or bytes k 0 < 256) → (sum at : ℕ) → at + 4 ≤ length bytes
     → checksum_from sum (drop at bytes) ≡ checksum_from (bits_on 32 (bit_xor sum (number_at at 4 bytes))) (drop (at + 4) bytes)

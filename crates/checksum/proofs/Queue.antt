@@ -123,6 +123,22 @@ pub no_lane : (bytes : List ℕ) (sum at : ℕ) → lanes_from sum [] (drop at b
 unfolding lanes_from
 no_lane bytes sum at = refl
 
+-- the end: each of five lanes goes in before its bytes, and nothing is passed on
+pub lanes_end : (bytes : List ℕ) (i first second third fourth fifth sum1 sum2 sum3 sum4 sum5 : ℕ)
+    → sum1 ≡ checksum_from (bit_xor 0 first) (part (8 * i) 8 bytes) → sum2 ≡ checksum_from (bit_xor sum1 second) (part (8 * (i + 1)) 8 bytes)
+    → sum3 ≡ checksum_from (bit_xor sum2 third) (part (8 * (i + 2)) 8 bytes) → sum4 ≡ checksum_from (bit_xor sum3 fourth) (part (8 * (i + 3)) 8 bytes)
+    → sum5 ≡ checksum_from (bit_xor sum4 fifth) (part (8 * (i + 4)) 8 bytes)
+    → checksum_from sum5 (drop (8 * (i + 5)) bytes) ≡ lanes_from 0 (first ∷ second ∷ third ∷ fourth ∷ fifth ∷ []) (drop (8 * i) bytes)
+lanes_end bytes i first second third fourth fifth sum1 sum2 sum3 sum4 sum5 e1 e2 e3 e4 e5 =
+    rw (e5, e4, e3, e2, e1)
+    (sym
+    (lane_in bytes _ _ _ (8 * i) (8 * (i + 1)) (omega arith)
+    ∙ lane_in bytes _ _ _ (8 * (i + 1)) (8 * (i + 2)) (omega arith)
+    ∙ lane_in bytes _ _ _ (8 * (i + 2)) (8 * (i + 3)) (omega arith)
+    ∙ lane_in bytes _ _ _ (8 * (i + 3)) (8 * (i + 4)) (omega arith)
+    ∙ lane_in bytes _ _ _ (8 * (i + 4)) (8 * (i + 5)) (omega arith)
+    ∙ no_lane bytes _ (8 * (i + 5))))
+
 -- a turn: the first lane takes its bytes in, and what these leave to others goes into the lanes of those
 pub lanes_turn : (bytes : List ℕ) → ((k : ℕ) → get_or bytes k 0 < 256)
     → (first second third fourth fifth at : ℕ) → at + 48 ≤ length bytes → bit_xor first (number_at at 8 bytes) < 2 ^ 64

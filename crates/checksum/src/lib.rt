@@ -3,7 +3,6 @@
 
 mod half_bytes;
 mod lanes;
-mod number;
 mod short;
 
 ghost use Rattle.std.specs.Prelude.{◌≡◌};
@@ -24,14 +23,9 @@ pub fn checksum_of(bytes: &[u8]) -> u32
 pub fn checksum_from(earlier: u32, bytes: &[u8]) -> u32
     ensures { result ≡ checksum_from earlier bytes.now }
 {
-    if bytes.len() < 4 {
-        return by_bytes(earlier, bytes, 0);
+    match bytes.len() {
+        0..=3 => by_bytes(earlier, bytes),
+        4..=47 => by_words(earlier, bytes),
+        _ => by_lanes(earlier, bytes),
     }
-    let mut sum = earlier;
-    let mut at = 0;
-    if 48 <= bytes.len() {
-        sum = by_lanes(earlier, bytes);
-        at = bytes.len() / 8 * 8;
-    }
-    by_words(sum, bytes, at)
 }

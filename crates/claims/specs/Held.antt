@@ -3,10 +3,10 @@ use Rattle.std.specs.Prelude.{ℕ, ◌-◌, ◌^◌, ◌<◌, ◌≡◌, List, l
 use Rattle.parts.specs.declared.Part.{Part}
 use Rattle.parts.specs.Parts.{am13e230x}
 use Rattle.settings.specs.declared.Shown.{Shown}
-use Rattle.settings.specs.declared.Settings.{Settings}
-use Rattle.settings.specs.declared.Kept.{Kept}
-use Rattle.settings.specs.declared.Contents.{Contents}
-use Rattle.settings_large.specs.declared.LargeContents.{LargeContents}
+use Rattle.settings.specs.Held.{Settings}
+use Rattle.settings.specs.Held.{Kept}
+use Rattle.settings.specs.Held.{Contents}
+use Rattle.settings_large.specs.Contents.{LargeContents}
 use Rattle.session.specs.declared.Session.{Session}
 use Rattle.c_records.specs.Records.{record_size, sleep_of}
 

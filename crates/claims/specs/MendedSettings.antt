@@ -1,6 +1,6 @@
 -- T-11, what a mended image says.
 use Rattle.settings.specs.declared.Shown.{Shown}
-use Rattle.settings.specs.declared.Settings.{Settings}
+use Rattle.settings.specs.Held.{Settings}
 use Rattle.settings.specs.Values.{blank_settings}
 use Rattle.settings_mend.specs.Mending.{allowed_or}
 

@@ -4,7 +4,7 @@ use Rattle.octets.specs.Number.{bytes_of}
 use Rattle.parts.specs.Parts.{mspm0}
 use Rattle.checksum.specs.Checksum.{checksum_of}
 use Rattle.line.specs.Codes.{command_header, reply_limit, connect, unlock}
-use Rattle.settings.specs.declared.Settings.{Settings}
+use Rattle.settings.specs.Held.{Settings}
 use Rattle.settings.specs.declared.Form.{Form}
 use Rattle.settings.specs.declared.Form.TheVariants.{One, Two}
 use Rattle.settings.specs.Values.{no_name}

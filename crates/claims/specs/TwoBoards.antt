@@ -7,7 +7,7 @@ use Rattle.line.specs.Codes.{acknowledged, unlock, reply_limit}
 use Rattle.line.specs.Packet.{core_in}
 use Rattle.line.specs.Acknowledgement.{acknowledgement}
 use Rattle.session_state.specs.Phases.{most_wrong, is_unlocked}
-use Rattle.settings.specs.declared.Kept.{Kept}
+use Rattle.settings.specs.Held.{Kept}
 use Rattle.flash.specs.Memory.{Memory}
 use Rattle.flash.specs.Protection.{may_change}
 use Rattle.session_judge.specs.Unlocking.{alert_reset}

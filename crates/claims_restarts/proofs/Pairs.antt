@@ -13,7 +13,7 @@ use Rattle.parts.specs.Parts.{Sound}
 use Rattle.session_state.specs.declared.Standing.{Standing}
 use Rattle.session_state.specs.Phases.{at_start}
 use Rattle.settings.specs.declared.Shown.{Shown}
-use Rattle.settings.specs.declared.Kept.{Kept}
+use Rattle.settings.specs.Held.{Kept}
 use Rattle.settings.specs.Answers.{Numbered, numbered}
 use Rattle.flash.specs.Memory.{Memory}
 use Rattle.session_judge.specs.declared.Judged.{Judged}

@@ -3,7 +3,7 @@
 use Rattle.std.specs.Prelude.{ℕ, ◌/◌, Bool, true, false, List}
 use Rattle.octets.specs.Choice.{pick}
 use Rattle.parts.specs.declared.Part.{Part}
-use Rattle.settings.specs.declared.Kept.{Kept}
+use Rattle.settings.specs.Held.{Kept}
 use Rattle.flash.specs.Memory.{Memory, memory}
 use Rattle.flash.specs.Protection.{changed}
 use Rattle.session_act.specs.declared.Order.{Order}

@@ -4,8 +4,8 @@ use Rattle.octets.specs.Number.{bytes_of}
 use Rattle.parts.specs.Parts.{mspm0}
 use Rattle.line.specs.Codes.{program, read_back}
 use Rattle.session_state.specs.Phases.{is_unlocked}
-use Rattle.settings.specs.declared.Settings.{Settings}
-use Rattle.settings.specs.declared.Contents.{Contents}
+use Rattle.settings.specs.Held.{Settings}
+use Rattle.settings.specs.Held.{Contents}
 use Rattle.settings.specs.declared.Form.TheVariants.{One}
 use Rattle.settings.specs.Values.{no_name}
 use Rattle.settings.specs.Layout.{image_size}

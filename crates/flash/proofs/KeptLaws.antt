@@ -3,16 +3,17 @@ use mathlib.Core.Path.{◌≡◌, sym, ap, ◌∙◌}
 use mathlib.Core.Bool.{Bool, true, false, not, true≢false}
 use mathlib.Core.List.{List}
 use mathlib.Core.Logic.{by_cases}
+use Rattle.std.specs.Prelude.{Some, None}
 use Prim.Native.Nat.{ℕ, ◌+◌, ◌-◌, ◌*◌, ◌/◌, ◌%◌, ◌≤◌, ◌<◌}
 use native.Mathlib.Decide.{dec_lt}
 use native.Mathlib.Nat.{add-mul, one-mul, div-add-mod', div-mul-le_self, le-div_iff_mul-le, mod-lt, mul-div_cancel}
 use native.Mathlib.Omega.{arith}
 use lib.Dec.{eqb}
-use borrow.Author.Tests.{eq-eqb}
+use borrow.Author.Tests.{eq-eqb, lt-ltb, le-ltb}
 use Rattle.octets.specs.Choice.{pick}
 use Rattle.octets.specs.Search.{search_from}
-use Rattle.octets.proofs.Searching.{search_here, search_past, search_of_none, search_alike, found_passes, first_is_least, pick_true, by_test}
-use Rattle.flash.specs.Protection.{is_protected, may_change, is_kept, first_kept}
+use Rattle.octets.proofs.Searching.{search_here, search_past, search_of_none, search_alike, found_passes, first_is_least, pick_true, pick_false, by_test}
+use Rattle.flash.specs.Protection.{is_protected, may_change, is_kept, first_kept, found_before}
 use Rattle.flash.proofs.ProtectionLaws.{open_place, protected_place, one_sector_lem}
 
 -- ---- found sector by sector
@@ -69,6 +70,15 @@ kept_empty_sectors sector_size protection at end e h =
     search_here _ end (is_kept sector_size protection) at (end - at) (omega arith) (ap not (pick_true false _ (eq-eqb sector_size 0 e)))
 
 -- ---- what was found
+
+module _ (end place found : ℕ) where
+  pub found_here : found ≡ place → place < end → Some place ≡ found_before end found
+  unfolding found_before
+  found_here e h = rw e (sym (pick_true (Some place) None (lt-ltb place end h)))
+
+pub none_found : (end found : ℕ) → end ≤ found → None ≡ found_before end found
+unfolding found_before
+none_found end found h = sym (pick_false (Some found) None (le-ltb found end h))
 
 module _ (sector_size : ℕ) (protection : List ℕ) (at end : ℕ) where
   -- one that is found stands in the run, and is protected

@@ -1,5 +1,5 @@
 -- What an answer of the range check says of the range, and how many bytes a range has.
-use mathlib.Core.Path.{◌≡◌, sym, ap, ◌∙◌}
+use mathlib.Core.Path.{◌≡◌, refl, sym, ap, ◌∙◌}
 use mathlib.Core.Bool.{true, false}
 use Prim.Native.Nat.{ℕ, ◌+◌, ◌-◌, ◌*◌, ◌/◌, ◌≤◌, ◌<◌}
 use mathlib.Core.Logic.{by_cases}
@@ -7,18 +7,18 @@ use native.Mathlib.Nat.{sub-zero, div-mul-le_self}
 use native.Mathlib.Decide.{dec_lt}
 use native.Mathlib.Omega.{arith}
 use mathlib.Core.List.{List, [], ◌∷◌}
-use lib.Dec.{leb}
+use lib.Dec.{leb, ltb}
 use lib.ListN.{length, length-take}
-use borrow.Author.Tests.{leb-true, le-leb, lt-leb}
+use borrow.Author.Tests.{leb-true, ltb-false, le-leb, lt-leb}
 use Rattle.octets.specs.Choice.{pick}
 use Rattle.octets.proofs.Searching.{pick_true, pick_false, pick_both, by_test}
 use Rattle.parts.specs.declared.Part.{Part}
 use Rattle.flash.specs.declared.Place.{Place}
 use Rattle.flash.specs.declared.Region.{Region}
 use Rattle.flash.specs.declared.Region.TheVariants.{Main, Settings, Window, Outside}
-use Rattle.flash.specs.Regions.{main_start, is_main_size, lies_within, place_from, place_in, window_place, nowhere, place_of}
+use Rattle.flash.specs.Regions.{main_start, is_main_size, lies_within, place_from, has_protected, place_in, window_place, nowhere, place_of}
 use Rattle.flash.specs.Memory.{Memory, bytes_in}
-use Rattle.flash.specs.Protection.{is_protected}
+use Rattle.flash.specs.Protection.{is_protected, found_before}
 use Rattle.flash.proofs.KeptLaws.{kept_alike}
 
 -- ---- sizes of MAIN
@@ -50,6 +50,15 @@ module _ (start size first count : ℕ) where
   range_past h = by_test (leb start first) (λ y. rw (y, lt-leb (first + count) (start + size) h)) (λ n. rw n)
 
 -- ---- the answer
+
+-- a protected place is told exactly where one was found before the end
+module _ (region : Region) (start offset end kept : ℕ) where
+  pub protected_is_told : has_protected (place_from region start offset end kept) ≡ ltb kept end
+  unfolding found_before pick
+  protected_is_told = by_test (ltb kept end) (λ y. rw y refl) (λ n. rw n refl)
+
+  pub none_is_told : has_protected (place_from region start offset end kept) ≡ false → end ≤ kept
+  none_is_told opened = ltb-false kept end (sym protected_is_told ∙ opened)
 
 -- the regions by number, which tells them apart
 abbrev number : Region → ℕ

@@ -1,6 +1,7 @@
 -- 01, The loader and its edges: "MAIN flash" and "Settings flash"; T-05: the SRAM window, "a third lent area"; and the bytes of a range.
 use Rattle.std.specs.Prelude.{ℕ, List, []}
 use Rattle.octets.specs.Number.{part}
+use Rattle.flash.specs.declared.Areas.{Areas}
 use Rattle.flash.specs.declared.Place.{Place}
 use Rattle.flash.specs.declared.Region.{Region}
 use Rattle.flash.specs.declared.Region.TheVariants.{Main, Settings, Window, Outside}
@@ -12,6 +13,10 @@ pub record Memory : Type 0 where
 
 abbrev pub memory : List ℕ → List ℕ → List ℕ → Memory
 memory main settings window = record { main = main; settings = settings; window = window }
+
+-- what the lent areas hold
+abbrev pub memory_in : Areas → Memory
+memory_in areas = memory areas.main.now areas.settings.now areas.window.now
 
 -- so many bytes of a region, from a place on
 abbrev pub bytes_in : ℕ → ℕ → Memory → Region → List ℕ

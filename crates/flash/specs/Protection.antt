@@ -1,6 +1,6 @@
 -- 01, Settings image, kind 6, and Commands: "Protected places keep their bytes in every erase and program".
 -- A sector's size is any number here; 01 has "One sector is 1,024 bytes." The settings flash is one sector.
-use Rattle.std.specs.Prelude.{ℕ, ◌-◌, ◌/◌, ◌%◌, ◌^◌, Bool, false, not, List, eqb, get_or}
+use Rattle.std.specs.Prelude.{ℕ, ◌-◌, ◌/◌, ◌%◌, ◌^◌, Bool, false, not, List, eqb, ltb, get_or, Option, Some, None}
 use Rattle.octets.specs.Choice.{pick}
 use Rattle.octets.specs.Search.{search_from}
 use Rattle.flash.specs.Places.{by_place}
@@ -28,3 +28,7 @@ is_kept sector_size protection place = not (may_change sector_size protection pl
 -- the first protected place from one on, up to an end; the end where there is none
 unfoldable pub first_kept : ℕ → List ℕ → ℕ → ℕ → ℕ
 first_kept sector_size protection at end = search_from (λ place. place) end (is_kept sector_size protection) at (end - at)
+
+-- a place that was found before an end, and none where the end was
+unfoldable pub found_before : ℕ → ℕ → Option ℕ
+found_before end place = pick (ltb place end) (Some place) None

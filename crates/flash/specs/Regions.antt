@@ -1,13 +1,14 @@
 -- 01, The loader and its edges: "MAIN flash starts at 0x00000000 .. Settings flash starts at 0x41C00000 and has 1,024 bytes."
 -- T-05: "Add 3,456 bytes at 0x20000160 as a third region"
-use Rattle.std.specs.Prelude.{ℕ, ◌+◌, ◌-◌, Bool, false, List, [], ◌∷◌, leb, ltb}
+use Rattle.std.specs.Prelude.{ℕ, ◌+◌, ◌-◌, Bool, false, List, [], ◌∷◌, leb, None}
+use Rattle.std.specs.Option.{is_some, option_map}
 use Rattle.octets.specs.Choice.{pick}
 use Rattle.octets.specs.Number.{is_multiple}
 use Rattle.parts.specs.declared.Part.{Part}
 use Rattle.flash.specs.declared.Place.{Place}
 use Rattle.flash.specs.declared.Region.{Region}
 use Rattle.flash.specs.declared.Region.TheVariants.{Main, Settings, Window, Outside}
-use Rattle.flash.specs.Protection.{first_kept}
+use Rattle.flash.specs.Protection.{first_kept, found_before}
 
 -- "MAIN flash starts at 0x00000000"
 abbrev pub main_start : ℕ
@@ -24,10 +25,14 @@ unfoldable pub lies_within : ℕ → ℕ → ℕ → ℕ → Bool
 lies_within start size first count = pick (leb start first) (leb (first + count) (start + size)) false
 
 -- T-04: "the range check now also tells whether the range has a protected place and the first such address". A place in a region is counted
--- from the region's start on, and its address is that start and it; 0 where no place is protected.
+-- from the region's start on, and its address is that start and it; none where no place is protected.
 abbrev pub place_from : Region → ℕ → ℕ → ℕ → ℕ → Place
 place_from region start offset end kept =
-    record { region = region; offset = offset; is_protected = ltb kept end; first_protected = pick (ltb kept end) (start + kept) 0 }
+    record { region = region; offset = offset; first_protected = option_map (λ found. start + found) (found_before end kept) }
+
+-- T-04: "tells whether the range has a protected place"
+abbrev pub has_protected : Place → Bool
+has_protected place = is_some place.first_protected
 
 -- the place of so many bytes from the first address on, in a region with these sectors and protection bits
 abbrev pub place_in : Region → ℕ → List ℕ → ℕ → ℕ → ℕ → Place
@@ -36,12 +41,12 @@ place_in region sector_size protection start first count =
 
 -- T-05: the SRAM window has no sectors, and nothing of it is protected
 abbrev pub window_place : ℕ → ℕ → Place
-window_place start first = record { region = Window; offset = first - start; is_protected = false; first_protected = 0 }
+window_place start first = record { region = Window; offset = first - start; first_protected = None }
 
 -- outside of every region the offset is 0, and nothing is protected; 01: "SRAM addresses are not in any region in the base." Since T-05 those of the
 -- window are.
 abbrev pub nowhere : Place
-nowhere = record { region = Outside; offset = 0; is_protected = false; first_protected = 0 }
+nowhere = record { region = Outside; offset = 0; first_protected = None }
 
 -- the region that holds so many bytes from the first address on, under the protection bits of MAIN's sectors and that of the settings,
 -- "settings protected (0 or 1)", which are one sector

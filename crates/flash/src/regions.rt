@@ -1,9 +1,9 @@
 // The regions of memory: which sizes MAIN may have, which region holds a range of addresses, and the bytes there.
-ghost use Rattle.std.specs.Prelude.{◌≡◌, ◌+◌, ◌≤◌};
+ghost use Rattle.std.specs.Prelude.{◌≡◌, ◌+◌, ◌<◌, ◌≤◌};
 ghost use Rattle.flash.specs.Regions.{is_main_size, lies_within, place_in, window_place, place_of};
-ghost use Rattle.flash.specs.Memory.{memory, bytes_in};
+ghost use Rattle.flash.specs.Memory.{memory_in, bytes_in};
 
-use crate::{Place, Region, protection};
+use crate::{Areas, Place, Region, Sectors, protection};
 use parts::Part;
 
 const MAIN_START: u32 = 0;
@@ -15,13 +15,7 @@ pub fn is_main_size(part: Part, size: usize) -> bool
 {
     let sector = part.sector_size as usize;
     let most = part.most_main as usize;
-    if size < sector {
-        return false;
-    }
-    if most < size {
-        return false;
-    }
-    octets::is_multiple(size as u64, sector as u64)
+    sector <= size && size <= most && octets::is_multiple(size as u64, sector as u64)
 }
 
 // Whether a region of so many bytes from a start on holds the range wholly.
@@ -30,45 +24,28 @@ pub fn is_main_size(part: Part, size: usize) -> bool
 fn lies_within(start: u32, size: u32, first: u32, count: u64) -> bool
     ensures { result ≡ lies_within start size first count }
 {
-    let room = size as u64;
-    if first < start {
-        return false;
-    }
-    if room < count {
-        return false;
-    }
-    first as u64 + count <= start as u64 + room
+    let room = u64::from(size);
+    start <= first && count <= room && u64::from(first) + count <= u64::from(start) + room
 }
 
 // The place of a range that a region holds wholly.
 #[tactic(auto, unfolding(octets::specs::Choice::pick))]
-fn place_in(
-    region: Region,
-    sector_size: u32,
-    protection: &[u8],
-    start: u32,
-    first: u32,
-    count: u64,
-) -> Place
-    requires { (start ≤ first) × (first + count ≤ start + 0xFFFFFFFF) }
-    ensures { result ≡ place_in region sector_size protection.now start first count }
+fn place_in(region: Region, sectors: Sectors<'_>, start: u32, first: u32, count: u64) -> Place
+    requires { (start ≤ first) × (first + count ≤ start + 0xFFFFFFFF) × (sectors.size < 4294967296) }
+    ensures { result ≡ place_in region sectors.entry.size sectors.entry.protection.now start first count }
 {
     let offset = (first - start) as usize;
     let end = offset + count as usize;
-    let kept = protection::first_kept(sector_size as usize, protection, offset, end);
-    if kept < end {
-        return Place {
-            region,
-            offset,
-            is_protected: true,
-            first_protected: start as u64 + kept as u64,
-        };
-    }
+    let kept = protection::first_kept(sectors, offset, end);
+    // by hand: a closure would ask in a clause of its own that the sum fits
+    let first_protected = match kept {
+        Some(kept) => Some(u64::from(start) + kept as u64),
+        None => None,
+    };
     Place {
         region,
         offset,
-        is_protected: false,
-        first_protected: 0,
+        first_protected,
     }
 }
 
@@ -80,8 +57,7 @@ fn place_in_window(start: u32, first: u32) -> Place
     Place {
         region: Region::Window,
         offset: (first - start) as usize,
-        is_protected: false,
-        first_protected: 0,
+        first_protected: None,
     }
 }
 
@@ -97,25 +73,17 @@ pub fn locate(
 ) -> Place
     ensures { result ≡ place_of part main_size protection.now settings_protected first count }
 {
+    let size = part.sector_size as usize;
     if lies_within(MAIN_START, main_size, first, count) {
-        return place_in(
-            Region::Main,
-            part.sector_size,
-            protection,
-            MAIN_START,
-            first,
-            count,
-        );
+        let sectors = Sectors { size, protection };
+        return place_in(Region::Main, sectors, MAIN_START, first, count);
     }
     if lies_within(part.settings_start, part.settings_size, first, count) {
-        return place_in(
-            Region::Settings,
-            part.sector_size,
-            &[settings_protected],
-            part.settings_start,
-            first,
-            count,
-        );
+        let sectors = Sectors {
+            size,
+            protection: &[settings_protected],
+        };
+        return place_in(Region::Settings, sectors, part.settings_start, first, count);
     }
     if lies_within(part.window_start, part.window_size, first, count) {
         return place_in_window(part.window_start, first);
@@ -123,26 +91,18 @@ pub fn locate(
     Place {
         region: Region::Outside,
         offset: 0,
-        is_protected: false,
-        first_protected: 0,
+        first_protected: None,
     }
 }
 
 // So many bytes of a region, from a place on; none outside.
-pub fn bytes_in<'a>(
-    region: Region,
-    offset: usize,
-    size: usize,
-    main: &'a [u8],
-    image: &'a [u8],
-    window: &'a [u8],
-) -> &'a [u8]
-    ensures { result.now ≡ bytes_in offset size (memory main.now image.now window.now) region }
+pub fn bytes_in<'a>(region: Region, offset: usize, size: usize, areas: Areas<'a>) -> &'a [u8]
+    ensures { result.now ≡ bytes_in offset size (memory_in areas.entry) region }
 {
     match region {
-        Region::Main => octets::part_of(main, offset, size),
-        Region::Settings => octets::part_of(image, offset, size),
-        Region::Window => octets::part_of(window, offset, size),
-        Region::Outside => octets::part_of(main, 0, 0),
+        Region::Main => octets::part_of(areas.main, offset, size),
+        Region::Settings => octets::part_of(areas.settings, offset, size),
+        Region::Window => octets::part_of(areas.window, offset, size),
+        Region::Outside => &[],
     }
 }

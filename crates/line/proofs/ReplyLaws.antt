@@ -6,7 +6,10 @@ use Prim.Native.Nat.{ℕ, suc, ◌+◌, ◌-◌, ◌/◌, ◌%◌, ◌≤◌, �
 use native.Mathlib.Omega.{arith}
 use borrow.Author.Tests.{le-ltb, ltb-false}
 use lib.Dec.{ltb}
-use lib.ListN.{length, take, drop, length-append}
+use lib.ListN.{length, take, drop, replicate, length-append}
+use mathlib.Core.Logic.{⊎_elim, ◌⊎◌}
+use Rattle.std.specs.Int.{to_le_bytes}
+use mir.Syntax.{w32}
 use lib.Seq.{sets, take_at}
 use Rattle.octets.specs.Choice.{pick}
 use Rattle.octets.specs.Number.{bytes_of, number_at}
@@ -102,20 +105,37 @@ sent_fits bytes area =
     by_pick (λ (left : Sent). left.size ≤ reply_limit) (ltb reply_limit (length bytes)) _ _ (λ y. omega arith)
     (λ n. by_pick (λ (left : Sent). left.size ≤ reply_limit) (ltb (length area) (length bytes)) _ _ (λ y. omega arith) (λ m. ltb-false _ _ n))
 
--- the fixed numbers of Info, with room for a version of eight bytes and for two numbers
-abbrev long_info_fixed : List ℕ
-long_info_fixed =
-    0x00 ∷ 0x01 ∷ 0x00 ∷ 0x01 ∷ 0 ∷ 0 ∷ 0 ∷ 0 ∷ 0 ∷ 0 ∷ 0 ∷ 0 ∷ 0x01 ∷ 0x00 ∷ 0xC0 ∷ 0x06 ∷ 0x60 ∷ 0x01 ∷ 0x00 ∷ 0x20 ∷ 0 ∷ 0 ∷ 0 ∷ 0 ∷ 0 ∷ 0 ∷ 0 ∷ 0 ∷ []
+-- the numbers of Info as they are stored: in 24 bytes a version of four, whose next four are stored over, in 28 one of eight
+abbrev info_stored : ℕ → List ℕ → ℕ → ℕ → List ℕ
+info_stored n version bcr bsl =
+    sets (sets (sets (sets (sets (sets (replicate n 0) 0 (0x00 ∷ 0x01 ∷ 0x00 ∷ 0x01 ∷ []))
+    4 (bytes_of 4 (number_at 0 4 version))) 8 (bytes_of 4 (number_at 4 4 version)))
+    (n - 16) (0x01 ∷ 0x00 ∷ 0xC0 ∷ 0x06 ∷ 0x60 ∷ 0x01 ∷ 0x00 ∷ 0x20 ∷ [])) (n - 8) (bytes_of 4 bcr)) (n - 4) (bytes_of 4 bsl)
 
--- Info with a version of eight bytes: its two halves and the two numbers, stored at their places among the fixed numbers
+-- the version's bytes, and what stands before and after them
 abbrev around_version : List ℕ → ℕ → ℕ → List ℕ
 around_version version bcr bsl =
     0x00 ∷ 0x01 ∷ 0x00 ∷ 0x01 ∷ (version ++ (0x01 ∷ 0x00 ∷ 0xC0 ∷ 0x06 ∷ 0x60 ∷ 0x01 ∷ 0x00 ∷ 0x20 ∷ (bytes_of 4 bcr ++ bytes_of 4 bsl)))
 
-pub long_info_made : (version : List ℕ) (bcr bsl : ℕ) → number_at 0 4 version < 4294967296
-    → sets (sets (sets (sets long_info_fixed 4 (bytes_of 4 (number_at 0 4 version))) 8 (bytes_of 4 (number_at 4 4 version))) 20 (bytes_of 4 bcr)) 24 (bytes_of 4 bsl)
-    ≡ info_of 8 (number_at 0 8 version) bcr bsl
-unfolding info_of bytes_of
-long_info_made version bcr bsl small =
-    ap (λ (eight : List ℕ). around_version eight bcr bsl)
-    (sym (ap (bytes_of 8) (two_fours version) ∙ eight_of_halves (number_at 0 4 version) (number_at 4 4 version) small))
+module _ (version : List ℕ) (bcr bsl : ℕ) where
+  short_info_made : info_stored 24 version bcr bsl ≡ info_of 4 (number_at 0 4 version) bcr bsl
+  unfolding info_of bytes_of
+  short_info_made = refl
+
+  long_info_made : number_at 0 4 version < 4294967296 → info_stored 28 version bcr bsl ≡ info_of 8 (number_at 0 8 version) bcr bsl
+  unfolding info_of bytes_of
+  long_info_made small =
+      ap (λ (eight : List ℕ). around_version eight bcr bsl)
+      (sym (ap (bytes_of 8) (two_fours version) ∙ eight_of_halves (number_at 0 4 version) (number_at 4 4 version) small))
+
+  pub info_made : (n : ℕ) → (n ≡ 24) ⊎ (n ≡ 28) → number_at 0 4 version < 4294967296
+      → info_stored n version bcr bsl ≡ info_of (n - 20) (number_at 0 (n - 20) version) bcr bsl
+  info_made n has small = ⊎_elim (λ e. rw e short_info_made) (λ e. rw e (long_info_made small)) has
+
+-- the four low bytes of a number as std makes them
+pub bytes_of_word : (number : ℕ) → to_le_bytes w32 number ≡ bytes_of 4 number
+unfolding bytes_of
+bytes_of_word number =
+    let third : number / 256 / 256 ≡ number / 65536 = omega arith in
+    let fourth : number / 65536 / 256 ≡ number / 16777216 = omega arith in
+    rw (third, fourth)

@@ -6,7 +6,7 @@ pub mod codes;
 mod commands;
 mod replies;
 
-pub use acknowledgement::{acknowledge, is_rate};
+pub use acknowledgement::{FrameError, acknowledge, is_rate};
 pub use commands::read_command;
 pub use replies::write_reply;
 
@@ -29,7 +29,7 @@ pub const SECOND_AT: usize = 8;
 // A protected command. Its wrong length is told in here, so that nobody looks at it before the lock. The data of Program stay
 // in the packet, `size` bytes from SECOND_AT on, and so does a reset password, 16 bytes from FIRST_AT on. Of the two that
 // program, 0x24 is the silent one.
-#[derive(Clone, Copy)]
+#[derive(Clone, Copy, Debug, PartialEq, Eq)]
 pub enum Guarded {
     RangeErase {
         start: u32,
@@ -56,7 +56,7 @@ pub enum Guarded {
 }
 
 // What a packet asks for, read without looking at the lock. The password of Unlock stays in the packet, 32 bytes from FIRST_AT on.
-#[derive(Clone, Copy)]
+#[derive(Clone, Copy, Debug, PartialEq, Eq)]
 pub enum Command {
     Connect,
     Info,
@@ -69,8 +69,8 @@ pub enum Command {
 }
 
 // What is sent back; the bytes of Read back and the version that Info tells stand beside it. Info is long on a part whose version has eight bytes.
-// FlashError is the one Detailed Error there is.
-#[derive(Clone, Copy)]
+// FlashError is the one Detailed Error there is. An acknowledgement and a message are bytes, for each byte is sent, also one that is no code.
+#[derive(Clone, Copy, Debug, PartialEq, Eq)]
 pub enum Reply {
     Silence,
     Acknowledged(u8),

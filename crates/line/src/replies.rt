@@ -1,7 +1,8 @@
-// Writing a reply: whole, or not at all.
-ghost use Rattle.std.specs.Prelude.{◌≡◌, [], ◌∷◌, ◌+◌, ◌≤◌, length};
+// Writing a reply: whole, or not at all. Each of these answers how many bytes it wrote, and not an `Option`: silence has 0 bytes too, and C
+// gets the number.
+ghost use Rattle.std.specs.Prelude.{◌≡◌, [], ◌∷◌, ◌+◌, ◌-◌, ◌≤◌, ◌⊎◌, length};
 ghost use Rattle.std.proofs.lemmas.List.Edits.{sets};
-ghost use Rattle.octets.specs.Number.{bytes_of, number_at};
+ghost use Rattle.octets.specs.Number.{number_at};
 ghost use Rattle.line.specs.declared.Reply.TheVariants.{Info};
 ghost use Rattle.line.specs.Replies.{core_reply, info_of, reply_bytes, sent, sent_of};
 
@@ -16,6 +17,7 @@ const REST_AT: usize = 5;
 const REPLY_FRAME: usize = 9;
 
 // Writes a core reply into an area that has room for it. The core is a code and what follows it.
+#[tactic(auto, using(crate::proofs::ReplyLaws::core_reply_made))]
 fn put_core_reply(code: u8, rest: &[u8], area: &mut [u8])
     requires { length rest.now + 9 ≤ length area.old }
     ensures { area.new ≡ sets area.old 0 (core_reply (code ∷ rest.now)) }
@@ -54,36 +56,27 @@ fn write_core_reply(code: u8, rest: &[u8], area: &mut [u8]) -> usize
 fn write_acknowledgement(code: u8, area: &mut [u8]) -> usize
     ensures { sent result area.new ≡ sent_of (code ∷ []) area.old }
 {
-    if area.len() < 1 {
+    let Some(first) = area.first_mut() else {
         return 0;
-    }
-    area[0] = code;
+    };
+    *first = code;
     1
 }
 
-// What the device tells of itself: 0x0100, 0x0100, a version, 0x0001, 0x06C0, 0x20000160, two ids. The zeros are filled in. The version's bytes
-// are those that some begin with; what is not there counts as 0.
-#[tactic(auto, unfolding(octets::specs::Number::bytes_of, crate::specs::Replies::info_of))]
-fn info_of(version: &[u8], bcr_id: u32, bsl_id: u32) -> [u8; 24]
-    ensures { result ≡ info_of 4 (number_at 0 4 version.now) bcr_id bsl_id }
+// What the device tells of itself, in 24 bytes, or in 28 where a version has eight: 0x0100, 0x0100, the version, 0x0001, 0x06C0, 0x20000160,
+// two ids. The version's bytes are those that some begin with; what is not there counts as 0. The last four of a short one are stored over.
+#[tactic(auto, using(crate::proofs::ReplyLaws::info_made))]
+fn info_of<const N: usize>(version: &[u8], bcr_id: u32, bsl_id: u32) -> [u8; N]
+    requires { (N ≡ 24) ⊎ (N ≡ 28) }
+    ensures { result ≡ info_of (N - 20) (number_at 0 (N - 20) version.now) bcr_id bsl_id }
 {
-    let mut info = *b"\x00\x01\x00\x01\0\0\0\0\x01\x00\xC0\x06\x60\x01\x00\x20\0\0\0\0\0\0\0\0";
-    octets::put_number(&mut info, 4, 4, octets::number32_at(version, 0));
-    octets::put_number(&mut info, 16, 4, bcr_id);
-    octets::put_number(&mut info, 20, 4, bsl_id);
-    info
-}
-
-// The same with a version of eight bytes.
-fn long_info_of(version: &[u8], bcr_id: u32, bsl_id: u32) -> [u8; 28]
-    ensures { result ≡ info_of 8 (number_at 0 8 version.now) bcr_id bsl_id }
-{
-    let mut info =
-        *b"\x00\x01\x00\x01\0\0\0\0\0\0\0\0\x01\x00\xC0\x06\x60\x01\x00\x20\0\0\0\0\0\0\0\0";
+    let mut info = [0; N];
+    octets::put(&mut info, 0, b"\x00\x01\x00\x01");
     octets::put_number(&mut info, 4, 4, octets::number32_at(version, 0));
     octets::put_number(&mut info, 8, 4, octets::number32_at(version, 4));
-    octets::put_number(&mut info, 20, 4, bcr_id);
-    octets::put_number(&mut info, 24, 4, bsl_id);
+    octets::put(&mut info, N - 16, b"\x01\x00\xC0\x06\x60\x01\x00\x20");
+    octets::put_number(&mut info, N - 8, 4, bcr_id);
+    octets::put_number(&mut info, N - 4, 4, bsl_id);
     info
 }
 
@@ -92,24 +85,22 @@ fn write_info(long: bool, version: &[u8], bcr_id: u32, bsl_id: u32, area: &mut [
     ensures { sent result area.new ≡ sent_of (reply_bytes (Info long bcr_id bsl_id) version.now) area.old }
 {
     if long {
-        let info = long_info_of(version, bcr_id, bsl_id);
-        return write_core_reply(codes::INFO_REPLY, &info, area);
+        return write_core_reply(
+            codes::INFO_REPLY,
+            &info_of::<28>(version, bcr_id, bsl_id),
+            area,
+        );
     }
-    write_core_reply(codes::INFO_REPLY, &info_of(version, bcr_id, bsl_id), area)
-}
-
-#[tactic(auto, unfolding(octets::specs::Number::bytes_of))]
-fn bytes_of(number: u32) -> [u8; 4]
-    ensures { result ≡ bytes_of 4 number }
-{
-    let mut bytes = [0u8; 4];
-    octets::put_number(&mut bytes, 0, 4, number);
-    bytes
+    write_core_reply(
+        codes::INFO_REPLY,
+        &info_of::<24>(version, bcr_id, bsl_id),
+        area,
+    )
 }
 
 // Writes a reply to the start of an area and answers its size. A reply for which there is no room, or of more than
 // 1,729 bytes, is not written at all, and the answer is 0.
-#[tactic(auto, unfolding(crate::specs::Replies::reply_bytes))]
+#[tactic(auto, using(crate::proofs::ReplyLaws::nothing_sent, crate::proofs::ReplyLaws::bytes_of_word), unfolding(crate::specs::Replies::reply_bytes))]
 pub fn write_reply(reply: Reply, bytes: &[u8], area: &mut [u8]) -> usize
     ensures { sent result area.new ≡ sent_of (reply_bytes reply bytes.now) area.old }
 {
@@ -123,7 +114,7 @@ pub fn write_reply(reply: Reply, bytes: &[u8], area: &mut [u8]) -> usize
             bsl_id,
         } => write_info(long, bytes, bcr_id, bsl_id, area),
         Reply::Bytes => write_core_reply(codes::READ_BACK_REPLY, bytes, area),
-        Reply::Sum(sum) => write_core_reply(codes::VERIFY_REPLY, &bytes_of(sum), area),
+        Reply::Sum(sum) => write_core_reply(codes::VERIFY_REPLY, &sum.to_le_bytes(), area),
         Reply::FlashError => write_core_reply(
             codes::DETAILED_ERROR_REPLY,
             &[codes::FLASH_ERROR, codes::NO_DETAIL, codes::NO_DETAIL],

@@ -1,8 +1,8 @@
 -- The digits of a number: made from the last to the first, counted, without the zeros before them, and read again.
-use mathlib.Core.Path.{◌≡◌, refl, ap, ◌∙◌}
+use mathlib.Core.Path.{◌≡◌, refl, sym, ap, ◌∙◌}
 use mathlib.Core.List.{List, [], ◌∷◌, ◌++◌, append_assoc}
 use Prim.Native.Nat.{ℕ, zero, suc, ◌+◌, ◌-◌, ◌*◌, ◌/◌, ◌%◌, ◌^◌, ◌≤◌, ◌<◌}
-use native.Mathlib.Nat.{pow-suc, div-lt_iff_lt-mul, zero-lt-suc}
+use native.Mathlib.Nat.{pow-suc, one-le-pow, div-lt_iff_lt-mul, zero-lt-suc}
 use native.Mathlib.Omega.{arith}
 use borrow.Author.Tests.{lt-ltb, le-ltb, ltb-true}
 use lib.Dec.{ltb}
@@ -25,37 +25,26 @@ digits_are_few zero number = omega arith
 digits_are_few (suc most) number =
     by_pick (λ (count : ℕ). count ≤ suc most) (ltb number 10) _ _ (λ y. omega arith) (λ n. omega (arith, digits_are_few most (number / 10)))
 
--- counted one by one: one below ten, else one more than the tenth has
-pub digits_stop : (most rest : ℕ) → rest < 10 → digits_within (suc most) rest ≡ 1
+-- one below ten, else one more than its tenth has
+pub digits_stop : (most number : ℕ) → number < 10 → digits_within (suc most) number ≡ 1
 unfolding digits_within
-digits_stop most rest h = pick_true _ _ (lt-ltb rest 10 h)
+digits_stop most number h = pick_true _ _ (lt-ltb number 10 h)
 
-pub digits_go_on : (most rest : ℕ) → 10 ≤ rest → digits_within (suc most) rest ≡ suc (digits_within most (rest / 10))
+pub digits_go_on : (most number : ℕ) → 10 ≤ number → digits_within (suc most) number ≡ suc (digits_within most (number / 10))
 unfolding digits_within
-digits_go_on most rest h = pick_false _ _ (le-ltb rest 10 h)
+digits_go_on most number h = pick_false _ _ (le-ltb number 10 h)
 
-pub one_digit : (rest : ℕ) → digits_within 1 rest ≡ 1
-unfolding digits_within
-one_digit rest = by_pick (λ (count : ℕ). count ≡ 1) (ltb rest 10) _ _ (λ y. refl) (λ n. refl)
+-- one more than the power of ten that a number reaches
+pub digits_by_power : (most tens number : ℕ) → tens < most → 10 ^ tens ≤ number → number < 10 * 10 ^ tens → tens + 1 ≡ digits_within most number
+digits_by_power zero tens number few least less = absurd (omega arith)
+digits_by_power (suc most) zero number few least less = sym (digits_stop most number (omega (arith, less)))
+digits_by_power (suc most) (suc tens) number few least less =
+    let p : 10 ^ suc tens ≡ 10 ^ tens * 10 = pow-suc 10 tens in
+    let some : 1 ≤ 10 ^ tens = one-le-pow tens 10 (omega arith) in
+    omega (arith, digits_go_on most number (omega (arith, p, least, some)), digits_by_power most tens (number / 10) (omega arith) (omega (arith, p, least)) (omega (arith, p, less)))
 
--- so many digits are counted, and what is left of ten makes the whole
-abbrev pub Counted : ℕ → ℕ → ℕ → Type 0
-Counted number rest count = digits_within 10 number + 1 ≡ count + digits_within (11 - count) rest
-
-module _ (number rest count : ℕ) where
-  pub counted_on : count < 10 → 10 ≤ rest → Counted number rest count → Counted number (rest / 10) (count + 1)
-  counted_on few h inv =
-      let e : 11 - count ≡ suc (10 - count) = omega arith in
-      let f : 11 - (count + 1) ≡ 10 - count = omega arith in
-      rw f (omega (arith, (rw e at inv), digits_go_on (10 - count) rest h))
-
-  pub last_counted : count < 10 → rest < 10 → Counted number rest count → count ≡ digits_within 10 number
-  last_counted few h inv =
-      let e : 11 - count ≡ suc (10 - count) = omega arith in
-      omega (arith, (rw e at inv), digits_stop (10 - count) rest h)
-
-  pub ten_counted : count ≡ 10 → Counted number rest count → count ≡ digits_within 10 number
-  ten_counted ten inv = omega (arith, (rw ten at inv), one_digit rest)
+pub zero_counted : (number : ℕ) → number ≡ 0 → 1 ≡ digits_within 10 number
+zero_counted number e = sym (digits_stop 9 number (omega (arith, e)))
 
 -- the zeros before a number are dropped
 pub last_of_more : (most count number : ℕ) → count ≤ most → drop (most - count) (last_digits most number) ≡ last_digits count number

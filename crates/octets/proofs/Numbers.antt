@@ -1,12 +1,11 @@
 -- A number and its bytes give each other back.
 use mathlib.Core.Path.{◌≡◌, refl, ap, ap₂, ◌∙◌}
 use mathlib.Core.List.{List, [], ◌∷◌, ◌++◌}
-use Prim.Native.Nat.{ℕ, zero, suc, ◌+◌, ◌-◌, ◌*◌, ◌/◌, ◌%◌, ◌^◌, ◌<◌, ◌≤◌}
+use Prim.Native.Nat.{ℕ, zero, suc, ◌+◌, ◌*◌, ◌/◌, ◌%◌, ◌^◌, ◌<◌}
 use native.Mathlib.Nat.{pow-suc, div-lt_iff_lt-mul, mod-lt, zero-lt-suc}
-use native.Mathlib.Numerals.{add-one, add-two}
 use native.Mathlib.Omega.{arith}
 use lib.ListN.{length, get_or, take}
-use lib.Seq.{drop-cons}
+use lib.Seq.{sets}
 use Rattle.octets.specs.Number.{number_of, bytes_of, number_at}
 
 pub length-bytes_of : (width number : ℕ) → length (bytes_of width number) ≡ width
@@ -40,38 +39,22 @@ number_fits (b ∷ bytes) h =
     let low : b < 256 = h 0 in
     rw pow-suc (omega (arith, number_fits bytes (λ k. h (suc k))))
 
--- two bytes that are there, and the one that is left; four as two twos
-pub number_of_two : (bytes : List ℕ) (at : ℕ) → at + 2 ≤ length bytes
-    → number_at at 2 bytes ≡ get_or bytes at 0 + 256 * get_or bytes (at + 1) 0
+-- the bytes that are there, as an array with 0 for those that are not: as `from_le_bytes` sums them
+pub two_in_array : (bytes array : List ℕ) → array ≡ sets (0 ∷ 0 ∷ []) 0 (take 2 bytes)
+    → get_or array 0 0 + get_or array 1 0 * 256 ≡ number_of (take 2 bytes)
 unfolding number_of
-number_of_two bytes at h =
-    let first : at < length bytes = omega arith in
-    let second : suc at < length bytes = omega arith in
-    rw (add-one, drop-cons bytes at 0, drop-cons bytes (suc at) 0) (omega arith)
+two_in_array [] array e = rw e
+two_in_array (a ∷ []) array e = rw e (omega arith)
+two_in_array (a ∷ b ∷ bytes) array e = rw e (omega arith)
 
-pub one_byte_left : (bytes : List ℕ) (at : ℕ) → length bytes - at < 2 → number_at at 2 bytes ≡ get_or bytes at 0
+pub four_in_array : (bytes array : List ℕ) → array ≡ sets (0 ∷ 0 ∷ 0 ∷ 0 ∷ []) 0 (take 4 bytes)
+    → get_or array 0 0 + get_or array 1 0 * 256 + get_or array 2 0 * 65536 + get_or array 3 0 * 16777216 ≡ number_of (take 4 bytes)
 unfolding number_of
-one_byte_left [] zero h = refl
-one_byte_left [] (suc at) h = refl
-one_byte_left (a ∷ []) zero h = omega arith
-one_byte_left (a ∷ b ∷ bytes) zero h = omega arith
-one_byte_left (a ∷ bytes) (suc at) h = one_byte_left bytes at (omega arith)
-
-pub number_of_four : (bytes : List ℕ) (at : ℕ) → at + 4 ≤ length bytes
-    → number_at at 4 bytes ≡ number_at at 2 bytes + 65536 * number_at (at + 2) 2 bytes
-unfolding number_of
-number_of_four bytes at h =
-    let first : at < length bytes = omega arith in
-    let second : suc at < length bytes = omega arith in
-    rw (add-two, drop-cons bytes at 0, drop-cons bytes (suc at) 0) (omega arith)
-
-pub two_twos : (bytes : List ℕ) → number_of (take 4 bytes) ≡ number_at 0 2 (take 4 bytes) + 65536 * number_at 2 2 (take 4 bytes)
-unfolding number_of
-two_twos [] = refl
-two_twos (a ∷ []) = omega arith
-two_twos (a ∷ b ∷ []) = omega arith
-two_twos (a ∷ b ∷ c ∷ []) = omega arith
-two_twos (a ∷ b ∷ c ∷ d ∷ bytes) = omega arith
+four_in_array [] array e = rw e
+four_in_array (a ∷ []) array e = rw e (omega arith)
+four_in_array (a ∷ b ∷ []) array e = rw e (omega arith)
+four_in_array (a ∷ b ∷ c ∷ []) array e = rw e (omega arith)
+four_in_array (a ∷ b ∷ c ∷ d ∷ bytes) array e = rw e (omega arith)
 
 -- each byte of a number is one
 pub each_bytes_of : (width number : ℕ) → (k : ℕ) → get_or (bytes_of width number) k 0 < 256

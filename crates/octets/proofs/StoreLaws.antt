@@ -3,11 +3,10 @@ use mathlib.Core.Path.{◌≡◌, refl, sym, ◌∙◌}
 use mathlib.Core.List.{List, [], ◌∷◌, ◌++◌, append-nil, append_assoc}
 use Prim.Native.Nat.{ℕ, suc, ◌+◌, ◌-◌, ◌/◌, ◌%◌, ◌≤◌, ◌<◌, min}
 use mathlib.Core.Logic.{by_cases}
-use native.Mathlib.Numerals.{add-one}
 use native.Mathlib.Decide.{dec_le}
 use native.Mathlib.Omega.{arith}
-use lib.ListN.{length, get_or, take, drop, set, replicate, length-replicate}
-use lib.Seq.{sets, sets-eq, set_out, drop-cons, drop-length, drop-drop}
+use lib.ListN.{length, take, drop, set, replicate, length-replicate}
+use lib.Seq.{sets, sets-eq, set_out, drop-length, drop-drop}
 use borrow.Rule.Slice.PartMut.{put_mid, mid_of, mid_len}
 use Rattle.octets.specs.Number.{bytes_of}
 
@@ -17,13 +16,7 @@ sets_out area at [] h = refl
 sets_out area at (b ∷ bytes) h =
     rw (set_out area at b h) (sets_out area (suc at) bytes (omega arith))
 
--- A loop stores what is left of some bytes, of a list or of a number. One turn: the first that is left, and then the others from the next place on.
-pub store_next : (area : List ℕ) (at i : ℕ) (bytes : List ℕ) → i < length bytes
-    → sets area (at + i) (drop i bytes) ≡ sets (set area (at + i) (get_or bytes i 0)) (at + (i + 1)) (drop (i + 1) bytes)
-store_next area at i bytes h =
-    let e : at + (i + 1) ≡ suc (at + i) = omega arith in
-    rw (e, add-one, drop-cons bytes i 0)
-
+-- A loop stores what is left of a number. One turn: its lowest byte, and then the others from the next place on.
 pub store_digit : (area : List ℕ) (at i width rest : ℕ) → i < width
     → sets area (at + i) (bytes_of (width - i) rest) ≡ sets (set area (at + i) (rest % 256)) (at + (i + 1)) (bytes_of (width - (i + 1)) (rest / 256))
 unfolding bytes_of

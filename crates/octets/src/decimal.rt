@@ -9,31 +9,23 @@ use crate::storing;
 const MOST_DIGITS: usize = 10;
 
 // How many digits a number has.
-#[tactic(auto, using(crate::proofs::DecimalLaws::counted_on, crate::proofs::DecimalLaws::last_counted, crate::proofs::DecimalLaws::ten_counted))]
+#[tactic(auto, using(crate::proofs::DecimalLaws::digits_by_power, crate::proofs::DecimalLaws::zero_counted))]
 pub fn digits_in(number: u32) -> usize
     ensures { result ≡ digits_in number }
 {
-    let mut rest = number;
-    let mut count = 1;
-    while count < MOST_DIGITS {
-        if rest < 10 {
-            return count;
-        }
-        rest /= 10;
-        count += 1;
+    match number.checked_ilog10() {
+        Some(tens) => tens as usize + 1,
+        None => 1,
     }
-    count
 }
 
-// As many digits as a number can have, with the zeros before it.
+// As many digits as a number can have, with the zeros before it. By place, from the last to the first.
 fn all_digits(number: u32) -> [u8; MOST_DIGITS]
     ensures { result ≡ last_digits most_digits number }
 {
     let mut digits = [b'0'; MOST_DIGITS];
     let mut rest = number;
-    let mut i = MOST_DIGITS;
-    while 0 < i {
-        i -= 1;
+    for i in (0..MOST_DIGITS).rev() {
         digits[i] = b'0' + (rest % 10) as u8;
         rest /= 10;
     }

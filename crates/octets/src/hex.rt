@@ -29,9 +29,7 @@ pub fn put_hex(area: &mut [u8], at: usize, bytes: &[u8])
 {
     // One more than fit whole: the last is stored as far as there is room.
     let count = reading::least(bytes.len(), reading::room(area.len(), at) / 3 + 1);
-    let mut i = 0;
-    while i < count {
-        storing::put(area, at + 3 * i, &text_of(bytes[i]));
-        i += 1;
+    for (i, byte) in bytes[..count].iter().enumerate() {
+        storing::put(area, at + 3 * i, &text_of(*byte));
     }
 }

@@ -1,15 +1,18 @@
 // Bytes read: one, some, numbers of two and four, and how many there are; and multiples of a number.
-ghost use Rattle.std.specs.Prelude.{◌≡◌, ◌+◌, ◌-◌, ◌≤◌, min, length, get_or};
+ghost use Rattle.std.specs.Prelude.{◌≡◌, ◌-◌, min, replicate, get_or};
+ghost use Rattle.std.proofs.lemmas.List.Edits.{sets};
 ghost use Rattle.octets.specs.Number.{part, number_at, is_multiple};
+
+use crate::storing;
 
 // The lesser of two numbers.
 pub fn least(a: usize, b: usize) -> usize
     ensures { result ≡ min a b }
 {
-    if a < b { a } else { b }
+    a.min(b)
 }
 
-// Whether a number is a multiple of a unit; of 0 there are none.
+// Whether a number is a multiple of a unit; of 0 there are none, where std's `is_multiple_of` takes 0 for one.
 #[tactic(auto, unfolding(crate::specs::Number::is_multiple, crate::specs::Choice::pick))]
 pub fn is_multiple(number: u64, unit: u64) -> bool
     ensures { result ≡ is_multiple number unit }
@@ -24,14 +27,14 @@ pub fn is_multiple(number: u64, unit: u64) -> bool
 pub fn room(size: usize, at: usize) -> usize
     ensures { result ≡ size - at }
 {
-    if at < size { size - at } else { 0 }
+    size.saturating_sub(at)
 }
 
 // The byte at a place, 0 past the end.
 pub fn byte_at(bytes: &[u8], at: usize) -> u8
     ensures { result ≡ get_or bytes.now at 0 }
 {
-    if at < bytes.len() { bytes[at] } else { 0 }
+    bytes.get(at).copied().unwrap_or(0)
 }
 
 // So many bytes from a place on, or as many as there are.
@@ -44,40 +47,26 @@ pub fn part_of(bytes: &[u8], at: usize, count: usize) -> &[u8]
     &bytes[first..end]
 }
 
-// Two bytes that are there, and four.
-fn pair_at(bytes: &[u8], at: usize) -> u16
-    requires { at + 2 ≤ length bytes.now }
-    ensures { result ≡ number_at at 2 bytes.now }
+// So many bytes from a place on, as an array; a place past the end has 0.
+pub fn array_at<const N: usize>(bytes: &[u8], at: usize) -> [u8; N]
+    ensures { result ≡ sets (replicate N 0) 0 (part at N bytes.now) }
 {
-    bytes[at] as u16 + 256 * (bytes[at + 1] as u16)
-}
-
-fn word_at(bytes: &[u8], at: usize) -> u32
-    requires { at + 4 ≤ length bytes.now }
-    ensures { result ≡ number_at at 4 bytes.now }
-{
-    pair_at(bytes, at) as u32 + 65536 * (pair_at(bytes, at + 2) as u32)
+    let mut array = [0; N];
+    storing::put(&mut array, 0, part_of(bytes, at, N));
+    array
 }
 
 // The two-byte number at a place; bytes past the end count as 0.
+#[tactic(auto, using(crate::proofs::Numbers::two_in_array))]
 pub fn number16_at(bytes: &[u8], at: usize) -> u16
     ensures { result ≡ number_at at 2 bytes.now }
 {
-    if 2 <= room(bytes.len(), at) {
-        return pair_at(bytes, at);
-    }
-    byte_at(bytes, at) as u16
+    u16::from_le_bytes(array_at(bytes, at))
 }
 
-// The four-byte number at a place; bytes past the end count as 0. Where all four are there, their end is looked for once.
+// The four-byte number at a place; bytes past the end count as 0.
 pub fn number32_at(bytes: &[u8], at: usize) -> u32
     ensures { result ≡ number_at at 4 bytes.now }
 {
-    if 4 <= room(bytes.len(), at) {
-        return word_at(bytes, at);
-    }
-    let four = part_of(bytes, at, 4);
-    let low = number16_at(four, 0);
-    let high = number16_at(four, 2);
-    low as u32 + 65536 * (high as u32)
+    u32::from_le_bytes(array_at(bytes, at))
 }

@@ -1,4 +1,5 @@
-// The parts whose loader this is. Each is a type that carries its numbers as constants; `Part` hands them on.
+// The parts whose loader this is. Each is a type that carries its numbers as constants; `Part` hands them on. No trait over both types: each
+// constant would stand there a second time, for the clauses, and a part is also a value that is known at run time only.
 #![tactic(auto)]
 
 ghost use Rattle.std.specs.Prelude.{◌≡◌};
@@ -6,7 +7,7 @@ ghost use Rattle.parts.specs.Parts.{mspm0, am13e230x};
 
 // The numbers of a part. MAIN starts at 0, and its size is the board's. A part without an SRAM window has one of 0 bytes. A version has four
 // bytes, or eight where it is long.
-#[derive(Clone, Copy)]
+#[derive(Clone, Copy, Debug, PartialEq, Eq)]
 pub struct Part {
     pub sector_size: u32,
     pub word_size: u32,
@@ -21,7 +22,7 @@ pub struct Part {
 }
 
 // The part of source document 004.
-#[derive(Clone, Copy)]
+#[derive(Clone, Copy, Debug, PartialEq, Eq)]
 pub struct Mspm0;
 
 impl Mspm0 {
@@ -65,7 +66,7 @@ impl Mspm0 {
 }
 
 // The larger part, of source document 000.
-#[derive(Clone, Copy)]
+#[derive(Clone, Copy, Debug, PartialEq, Eq)]
 pub struct Am13e230x;
 
 impl Am13e230x {

@@ -1,10 +1,8 @@
 -- 01, Marked cases and the rest: "a script of at most 65,536 bytes from standard input: count (two bytes, 1 to 64), then each entry's
 -- wait (4) and length (2), then the packets back to back, nothing after". An entry is told by its index, which begins at 0.
-use Rattle.std.specs.Prelude.{ℕ, zero, suc, ◌+◌, ◌*◌, Bool, true, false, List, leb, eqb, length}
+use Rattle.std.specs.Prelude.{ℕ, zero, suc, ◌+◌, ◌*◌, Bool, true, false, List, Option, Some, None, leb, eqb, length}
 use Rattle.octets.specs.Choice.{pick}
 use Rattle.octets.specs.Number.{part, number_at}
-use Rattle.runner_text.specs.declared.Script.{Script}
-use Rattle.runner_text.specs.declared.Script.TheVariants.{Good, Bad}
 
 -- "at most 65,536 bytes"
 abbrev pub script_limit : ℕ
@@ -53,9 +51,9 @@ pub record Told : Type 0 where
 abbrev pub told : Bool → ℕ → Told
 told good count = record { good = good; count = count }
 
-abbrev pub script_told : Script → Told
-script_told (Good count) = told true count
-script_told Bad = told false 0
+abbrev pub script_told : Option ℕ → Told
+script_told (Some count) = told true count
+script_told None = told false 0
 
 -- "A script that breaks the form prints only "bad script"."
 unfoldable pub script_of : List ℕ → Told

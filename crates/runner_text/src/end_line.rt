@@ -22,22 +22,19 @@ fn write_with_number(start: &[u8], number: u32, area: &mut [u8]) -> usize
     end + 1
 }
 
-fn write_command_end(unlocked: bool, tries: u32, area: &mut [u8]) -> usize
-    ensures { written result area.new ≡ written_of (end_of (Phase.Command unlocked 0) tries) area.old }
-{
-    if unlocked {
-        return write_with_number(b"end command unlocked tries ", tries, area);
-    }
-    write_with_number(b"end command locked tries ", tries, area)
-}
-
 // Writes the end line, which says how the session stands at last and how many wrong passwords it has seen, as the line of an entry is written.
 pub fn write_end(phase: Phase, tries: u32, area: &mut [u8]) -> usize
     ensures { written result area.new ≡ written_of (end_of phase tries) area.old }
 {
     match phase {
         Phase::Detect => write_with_number(b"end detect tries ", tries, area),
-        Phase::Command { unlocked, sleep: _ } => write_command_end(unlocked, tries, area),
+        Phase::Command { unlocked: true, .. } => {
+            write_with_number(b"end command unlocked tries ", tries, area)
+        }
+        Phase::Command {
+            unlocked: false,
+            ..
+        } => { write_with_number(b"end command locked tries ", tries, area) }
         Phase::Standby => write_with_number(b"end standby tries ", tries, area),
         Phase::Ended => write_with_number(b"end ended tries ", tries, area),
         Phase::Disabled => write_with_number(b"end disabled tries ", tries, area),

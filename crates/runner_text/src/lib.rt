@@ -16,10 +16,3 @@ pub(crate) const MOST_ENTRIES: u16 = 64;
 
 // The longest line: a number of three digits, a reply of 1,729 bytes, three characters each, and the line's end.
 pub const LINE_SIZE: usize = 5191;
-
-// What a script is: one that keeps the form, with so many entries, or one that breaks it.
-#[derive(Clone, Copy)]
-pub enum Script {
-    Good { count: u8 },
-    Bad,
-}

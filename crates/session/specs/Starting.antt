@@ -1,9 +1,9 @@
 -- 01, Phases and waits, Start; Numbers of refused calls, "Start checks 1-8".
-use Rattle.std.specs.Prelude.{ℕ, Bool, not, List, eqb, length}
+use Rattle.std.specs.Prelude.{ℕ, Bool, not, List, eqb, length, Result, Ok, Err}
 use Rattle.octets.specs.Choice.{pick}
 use Rattle.parts.specs.declared.Part.{Part}
 use Rattle.session_state.specs.Phases.{at_start}
-use Rattle.settings.specs.declared.Kept.{Kept}
+use Rattle.settings.specs.Held.{Kept}
 use Rattle.settings.specs.Kept.{no_kept}
 use Rattle.settings.specs.Answers.{SettingsTold, settings_only, numbered}
 use Rattle.settings.specs.Reader.{read_of}
@@ -11,7 +11,8 @@ use Rattle.settings_large.specs.Image.{large_size}
 use Rattle.settings_large.specs.Reader as larger
 use Rattle.session.specs.declared.Session.{Session}
 use Rattle.flash.specs.Regions.{is_main_size}
-use Rattle.session.specs.StartAnswers.{StartTold}
+use Rattle.session.specs.declared.StartError.{StartError}
+use Rattle.session.specs.StartAnswers.{StartTold, start_numbered}
 
 -- "Start gives detect, idle 0, sleep 0, wrong count 0, rate id 2. Settings are taken at start; later writes to the settings flash count from
 -- the next start."
@@ -24,6 +25,11 @@ no_session = session_of 0 no_kept
 
 abbrev pub start_refused : ℕ → ℕ → StartTold
 start_refused number entry = record { answer = numbered number entry; session = no_session }
+
+-- what a start tells: a session has the number 0
+abbrev pub start_told : Result Session StartError → StartTold
+start_told (Ok session) = record { answer = numbered 0 0; session = session }
+start_told (Err error) = start_refused (start_numbered error).number (start_numbered error).entry
 
 -- 3 to 8, as the settings reader has them; T-09: "Boards start from both forms.", and a session keeps neither form nor name
 unfoldable pub start_read : ℕ → SettingsTold → StartTold

@@ -1,5 +1,8 @@
-// A session of a board: its start, and each call of it.
+// A session of a board: its start, and each call of it. A part's sizes are numbers of 32 bits, and go by `as usize`: Rust has no From for that.
 #![tactic(auto)]
+
+ghost use Rattle.std.specs.Prelude.{◌≡◌};
+ghost use Rattle.session.specs.declared.StartError.TheVariants.{Image};
 
 mod calling;
 mod passwords;
@@ -19,35 +22,35 @@ pub struct Session {
     pub settings: Kept,
 }
 
-// What start answers.
-#[derive(Clone, Copy)]
-pub enum StartAnswer {
-    Started,
+// Why a start is refused.
+#[derive(Clone, Copy, Debug, PartialEq, Eq)]
+pub enum StartError {
     FuseSet,
     MainSizeWrong,
     WindowSizeWrong,
-    ImageRefused(Refusal),
+    Image(Refusal),
 }
 
-// The answer, and the session that was started; beside a refusal stands one that every call refuses.
+impl From<Refusal> for StartError {
+    ghost from_gives = { λ refusal error. error ≡ Image refusal };
+
+    fn from(refusal: Refusal) -> StartError {
+        StartError::Image(refusal)
+    }
+}
+
+// What a call leaves that is not refused: the session for the next call, the size of the reply, and whether the board is to burn its fuse.
 #[derive(Clone, Copy)]
-pub struct Started {
-    pub answer: StartAnswer,
+pub struct Called {
     pub session: Session,
+    pub size: usize,
+    pub burn: bool,
 }
 
-// What a call answers: the size of its reply and whether the board is to burn its fuse, or why the call is refused.
-#[derive(Clone, Copy)]
-pub enum CallAnswer {
-    Done { size: usize, burn: bool },
+// Why a call is refused. It changes nothing, and the next call is given the same session again.
+#[derive(Clone, Copy, Debug, PartialEq, Eq)]
+pub enum CallError {
     ReplyAreaTooSmall,
     WindowSizeWrong,
     RecordNotValid,
-}
-
-// The answer, and the session record for the next call.
-#[derive(Clone, Copy)]
-pub struct Called {
-    pub answer: CallAnswer,
-    pub session: Session,
 }

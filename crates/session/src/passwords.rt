@@ -37,10 +37,7 @@ pub(crate) fn unlocks(password: &[u8], packet: &[u8]) -> bool
 pub(crate) fn resets(effect: Effect, password: &[u8], packet: &[u8]) -> bool
     ensures { (part : Part) (main_size : ℕ) (shown : Shown) (protection : List ℕ) (before : Memory) → plan_of part main_size shown protection result before effect ≡ plan_of part main_size shown protection (are_same password.now (reset_password_in packet.now)) before effect }
 {
-    let Effect::Perform(task) = effect else {
-        return false;
-    };
-    let Guarded::FactoryReset { with_password: _ } = task else {
+    let Effect::Perform(Guarded::FactoryReset { .. }) = effect else {
         return false;
     };
     octets::are_same(

@@ -10,19 +10,10 @@ use parts::Part;
 pub(crate) fn is_record(part: Part, session: Session, main_size: usize, image_size: usize) -> bool
     ensures { result ≡ is_record part session main_size image_size }
 {
-    if !session_state::is_valid(part.last_rate, session.standing) {
-        return false;
-    }
-    let settings = session.settings;
-    if !settings::are_allowed(settings.shown) {
-        return false;
-    }
-    if image_size != part.settings_size as usize {
-        return false;
-    }
     let own_size = session.main_size as usize;
-    if !flash::is_main_size(part, own_size) {
-        return false;
-    }
-    main_size == own_size
+    session_state::is_valid(part.last_rate, session.standing)
+        && settings::are_allowed(session.settings.shown)
+        && image_size == part.settings_size as usize
+        && flash::is_main_size(part, own_size)
+        && main_size == own_size
 }

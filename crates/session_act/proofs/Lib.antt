@@ -1,6 +1,4 @@
 -- What the proofs share, the lowest first.
--- RegionTests: what a test of a region leaves where it fails.
-pub mod RegionTests
 -- WrittenLaws: whether a word of a range is written is told by its bytes.
 pub mod WrittenLaws
 -- PlanLaws: what a plan can be, and that no reply depends on memory after the order.

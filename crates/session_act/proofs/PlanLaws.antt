@@ -20,7 +20,7 @@ use Rattle.settings.specs.declared.Shown.{Shown}
 use Rattle.flash.specs.declared.Region.{Region}
 use Rattle.flash.specs.declared.Region.TheVariants.{Main, Settings, Window, Outside}
 use Rattle.flash.specs.declared.Place.{Place}
-use Rattle.flash.specs.Regions.{place_of}
+use Rattle.flash.specs.Regions.{has_protected, place_of}
 use Rattle.flash.specs.Memory.{Memory, bytes_in}
 use Rattle.session_act.specs.declared.Order.{Order}
 use Rattle.session_act.specs.declared.Order.TheVariants.{Keep}
@@ -58,7 +58,7 @@ module _ (P : Planned → Type 0) (shows_none : (reply : Reply) (order : Order) 
   unfolding range_erase
   range_erase_lem part main_size protection settings_bit start end =
       let place = place_of part main_size protection settings_bit start (end - start + 1) in
-      by_pick P (ltb end start) _ _ (λ y. shows_none _ _) (λ n. erase_in start end place.is_protected place.region)
+      by_pick P (ltb end start) _ _ (λ y. shows_none _ _) (λ n. erase_in start end (has_protected place) place.region)
 
   program : (part : Part) (protection : List ℕ) (settings_bit address size : ℕ) (memory : Memory) (place : Place)
       → P (program_at part protection settings_bit address size memory place)
@@ -67,7 +67,7 @@ module _ (P : Planned → Type 0) (shows_none : (reply : Reply) (order : Order) 
       by_pick P (is_outside place.region) _ _ (λ y. shows_none _ _)
       (λ n. by_pick P (is_window place.region) _ _ (λ y. shows_none _ _)
       (λ n. by_pick P (is_aligned part.word_size address size) _ _
-      (λ y. by_pick P place.is_protected _ _ (λ k. shows_none _ _)
+      (λ y. by_pick P (has_protected place) _ _ (λ k. shows_none _ _)
       (λ o. by_pick P (written_in part protection settings_bit place.offset size memory place.region) _ _ (λ w. shows_none _ _) (λ b. shows_none _ _)))
       (λ n. shows_none _ _)))
 

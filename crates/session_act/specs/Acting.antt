@@ -31,6 +31,9 @@ task_planned part main_size shown protection right memory (guarded.Verify addres
 task_planned part main_size shown protection right memory (guarded.FactoryReset with) = factory_reset shown.reset_mode with right
 task_planned part main_size shown protection right memory guarded.WrongLength = tells codes.wrong_length
 
+abbrev pub task_on : Board → Bool → Memory → Guarded → Planned
+task_on board right memory task = task_planned board.part board.main_size board.shown board.protection right memory task
+
 -- what was decided is planned; the bit is whether the packet carries the reset password
 abbrev pub plan_of : Part → ℕ → Shown → List ℕ → Bool → Memory → Effect → Planned
 plan_of part main_size shown protection right memory (Say reply) = says reply

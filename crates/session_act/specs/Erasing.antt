@@ -6,7 +6,7 @@ use Rattle.line.specs.Codes as codes
 use Rattle.flash.specs.declared.Region.{Region}
 use Rattle.flash.specs.declared.Region.TheVariants.{Main, Settings, Window, Outside}
 use Rattle.flash.specs.declared.Place.{Place}
-use Rattle.flash.specs.Regions.{place_of}
+use Rattle.flash.specs.Regions.{has_protected, place_of}
 use Rattle.session_act.specs.declared.Order.TheVariants.{EraseBetween, EraseMain, EraseBoth}
 use Rattle.session_act.specs.declared.Planned.{Planned}
 use Rattle.session_act.specs.Plans.{tells, orders}
@@ -20,7 +20,7 @@ range_erase_in start end protected Window = tells codes.invalid_range
 range_erase_in start end protected Outside = tells codes.invalid_range
 
 abbrev pub range_erase_at : ℕ → ℕ → Place → Planned
-range_erase_at start end place = range_erase_in start end place.is_protected place.region
+range_erase_at start end place = range_erase_in start end (has_protected place) place.region
 
 -- "0x23 Range erase, protected, L 9: start above end or either outside MAIN: 05." The range has end - start + 1 bytes.
 unfoldable pub range_erase : Part → ℕ → List ℕ → ℕ → ℕ → ℕ → Planned

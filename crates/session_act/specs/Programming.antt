@@ -8,7 +8,7 @@ use Rattle.line.specs.declared.Reply.TheVariants.{FlashError}
 use Rattle.flash.specs.declared.Region.{Region}
 use Rattle.flash.specs.declared.Region.TheVariants.{Main, Settings, Window, Outside}
 use Rattle.flash.specs.declared.Place.{Place}
-use Rattle.flash.specs.Regions.{place_of}
+use Rattle.flash.specs.Regions.{has_protected, place_of}
 use Rattle.flash.specs.Memory.{Memory}
 use Rattle.flash.specs.Words.{some_written}
 use Rattle.session_act.specs.declared.Order.{Order}
@@ -59,7 +59,7 @@ program_at part protection settings_bit address size memory place =
     pick (is_outside place.region) (tells codes.invalid_range)
     (pick (is_window place.region) (orders codes.success (program_in place.offset size place.region))
     (pick (is_aligned part.word_size address size)
-    (pick place.is_protected (tells codes.invalid_range)
+    (pick (has_protected place) (tells codes.invalid_range)
     (pick (written_in part protection settings_bit place.offset size memory place.region) (says FlashError)
     (orders codes.success (program_in place.offset size place.region))))
     (tells codes.not_aligned)))

@@ -1,96 +1,56 @@
 // Orders: what was planned is done to memory.
-ghost use Rattle.std.specs.Prelude.{◌≡◌, [], ◌∷◌};
-ghost use Rattle.std.proofs.lemmas.List.Edits.{sets};
-ghost use Rattle.flash.specs.Erasing.{erase_all_of};
-ghost use Rattle.flash.specs.Programming.{program_of};
+ghost use Rattle.std.specs.Prelude.{◌≡◌};
 ghost use Rattle.line.specs.Packet.{data_in};
 ghost use Rattle.flash.specs.Memory.{memory};
 ghost use Rattle.session_act.specs.Orders.{carried_out};
 
-use crate::Order;
-use parts::Part;
-use settings::Shown;
+use crate::{Order, Site};
+use flash::Sectors;
 
-// Erases both regions, MAIN first (`Order` tells why). The settings flash is one sector, and the number is its bit.
-fn erase_both(
-    sector_size: u32,
-    protection: &[u8],
-    settings_protected: u8,
-    main: &mut [u8],
-    image: &mut [u8],
-)
-    ensures { (main.new ≡ erase_all_of sector_size protection.now main.old) × (image.new ≡ erase_all_of sector_size (settings_protected ∷ []) image.old) }
+// The data of a program, which are the packet's.
+fn data_in(packet: &[u8], size: u32) -> &[u8]
+    ensures { result.now ≡ data_in size packet.now }
 {
-    flash::erase_all(main, sector_size as usize, protection);
-    flash::erase_all(image, sector_size as usize, &[settings_protected]);
+    octets::part_of(packet, line::SECOND_AT, size as usize)
 }
 
-// Programs one region with the packet's data.
-fn program_region(
-    sector_size: u32,
-    protection: &[u8],
-    offset: usize,
-    size: u32,
-    packet: &[u8],
-    region: &mut [u8],
-)
-    ensures { region.new ≡ program_of sector_size protection.now offset (data_in size packet.now) region.old }
-{
-    let bytes = octets::part_of(packet, line::SECOND_AT, size as usize);
-    flash::program(region, sector_size as usize, protection, offset, bytes);
-}
-
-// Stores the packet's data in the SRAM window as they are.
-fn store_window(offset: usize, size: u32, packet: &[u8], window: &mut [u8])
-    ensures { window.new ≡ sets window.old offset (data_in size packet.now) }
-{
-    let bytes = octets::part_of(packet, line::SECOND_AT, size as usize);
-    octets::put(window, offset, bytes);
-}
-
-// Does an order. Protected sectors keep their bytes, and the SRAM window changes by a store alone.
+// Does an order. Protected sectors keep their bytes, and the SRAM window changes by a store alone. The settings flash is one sector, and the number
+// is its bit. No struct of the three: of each `&mut` in one, every function would have to promise that it is still the same.
 pub fn carry_out(
-    part: Part,
+    site: Site<'_>,
     order: Order,
-    shown: Shown,
-    protection: &[u8],
     packet: &[u8],
     main: &mut [u8],
     image: &mut [u8],
     window: &mut [u8],
 )
-    ensures { memory main.new image.new window.new ≡ carried_out part shown protection.now packet.now (memory main.old image.old window.old) order }
+    ensures { memory main.new image.new window.new ≡ carried_out site.entry.part site.entry.shown site.entry.protection.now packet.now (memory main.old image.old window.old) order }
 {
+    let sectors = Sectors {
+        size: site.part.sector_size as usize,
+        protection: site.protection,
+    };
+    let settings_sectors = Sectors {
+        protection: &[site.shown.settings_protected],
+        ..sectors
+    };
     match order {
         Order::Keep => {}
-        Order::EraseBetween { start, end } => flash::erase_between(
-            main,
-            part.sector_size as usize,
-            protection,
-            start as usize,
-            end as usize,
-        ),
-        Order::EraseMain => flash::erase_all(main, part.sector_size as usize, protection),
+        Order::EraseBetween { start, end } => {
+            flash::erase_between(main, sectors, start as usize, end as usize)
+        }
+        Order::EraseMain => flash::erase_all(main, sectors),
+        // MAIN first: `Order` tells why
         Order::EraseBoth => {
-            erase_both(
-                part.sector_size,
-                protection,
-                shown.settings_protected,
-                main,
-                image,
-            )
+            flash::erase_all(main, sectors);
+            flash::erase_all(image, settings_sectors);
         }
         Order::ProgramMain { offset, size } => {
-            program_region(part.sector_size, protection, offset, size, packet, main)
+            flash::program(main, sectors, offset, data_in(packet, size))
         }
-        Order::ProgramSettings { offset, size } => program_region(
-            part.sector_size,
-            &[shown.settings_protected],
-            offset,
-            size,
-            packet,
-            image,
-        ),
-        Order::StoreWindow { offset, size } => store_window(offset, size, packet, window),
+        Order::ProgramSettings { offset, size } => {
+            flash::program(image, settings_sectors, offset, data_in(packet, size))
+        }
+        Order::StoreWindow { offset, size } => octets::put(window, offset, data_in(packet, size)),
     }
 }

@@ -1,4 +1,4 @@
-// Plans with no bytes beside the answer.
+// Plans with no bytes beside the answer; each is made so often that it has a name.
 ghost use Rattle.std.specs.Prelude.{◌≡◌};
 ghost use Rattle.flash.specs.declared.Region.TheVariants.{Outside};
 ghost use Rattle.session_act.specs.Plans.{planned, says, tells, orders};
@@ -21,17 +21,19 @@ fn planned(reply: Reply, order: Order) -> Planned
 }
 
 // An answer, and memory is kept.
-pub(crate) fn says(reply: Reply) -> Planned
-    ensures { result ≡ says reply }
-{
-    planned(reply, Order::Keep)
+impl From<Reply> for Planned {
+    ghost from_gives = { λ reply planned. planned ≡ says reply };
+
+    fn from(reply: Reply) -> Planned {
+        planned(reply, Order::Keep)
+    }
 }
 
 // A message, and memory is kept.
 pub(crate) fn tells(code: u8) -> Planned
     ensures { result ≡ tells code }
 {
-    planned(Reply::Message(code), Order::Keep)
+    Planned::from(Reply::Message(code))
 }
 
 // A message, and something is done.

@@ -1,13 +1,12 @@
 // Program, and its silent twin: what they plan.
 ghost use Rattle.std.specs.Prelude.{◌≡◌};
 ghost use Rattle.octets.specs.Alike.{all_are};
-ghost use Rattle.flash.specs.Memory.{memory, bytes_in};
+ghost use Rattle.flash.specs.Memory.{memory_in, bytes_in};
 ghost use Rattle.session_act.specs.Programming.{is_aligned, program_in, program};
 
-use crate::{Order, Planned, plans};
-use flash::Region;
+use crate::{Order, Planned, Site, plans};
+use flash::{Areas, Region};
 use line::{Reply, codes};
-use parts::Part;
 
 // What an erase leaves.
 const BLANK: u8 = 0xFF;
@@ -16,10 +15,8 @@ const BLANK: u8 = 0xFF;
 fn is_aligned(word: u32, address: u32, size: u32) -> bool
     ensures { result ≡ is_aligned word address size }
 {
-    if !octets::is_multiple(address as u64, word as u64) {
-        return false;
-    }
-    octets::is_multiple(size as u64, word as u64)
+    let word = u64::from(word);
+    octets::is_multiple(u64::from(address), word) && octets::is_multiple(u64::from(size), word)
 }
 
 // The order that programs a region from a place on; in the SRAM window the bytes are stored.
@@ -35,44 +32,20 @@ fn program_in(region: Region, offset: usize, size: u32) -> Order
 }
 
 // Whether every byte of the range is 0xFF. Of a range of whole words that may change, this tells whether every word is blank.
-fn is_blank<'a>(
-    region: Region,
-    offset: usize,
-    size: u32,
-    main: &'a [u8],
-    image: &'a [u8],
-    window: &'a [u8],
-) -> bool
-    ensures { result ≡ all_are 0xFF (bytes_in offset size (memory main.now image.now window.now) region) }
+fn is_blank(region: Region, offset: usize, size: u32, areas: Areas<'_>) -> bool
+    ensures { result ≡ all_are 0xFF (bytes_in offset size (memory_in areas.entry) region) }
 {
-    let bytes = flash::bytes_in(region, offset, size as usize, main, image, window);
+    let bytes = flash::bytes_in(region, offset, size as usize, areas);
     octets::all_are(BLANK, bytes)
 }
 
 // Programs the region that holds the range wholly, where it is flash, no place of it is protected and no word is written. The SRAM window
 // takes any bytes at any address.
 #[tactic(auto, using(crate::proofs::WrittenLaws::written_by_bytes), unfolding(crate::specs::Programming::program_at, octets::specs::Choice::pick))]
-pub(crate) fn program<'a>(
-    part: Part,
-    main_size: u32,
-    protection: &[u8],
-    settings_protected: u8,
-    address: u32,
-    size: u32,
-    main: &'a [u8],
-    image: &'a [u8],
-    window: &'a [u8],
-) -> Planned
-    ensures { result ≡ program part main_size protection.now settings_protected address size (memory main.now image.now window.now) }
+pub(crate) fn program(site: Site<'_>, address: u32, size: u32, areas: Areas<'_>) -> Planned
+    ensures { result ≡ program site.entry.part site.entry.main_size site.entry.protection.now site.entry.shown.settings_protected address size (memory_in areas.entry) }
 {
-    let place = flash::locate(
-        part,
-        main_size,
-        protection,
-        settings_protected,
-        address,
-        size as u64,
-    );
+    let place = site.locate(address, u64::from(size));
     let region = place.region;
     let offset = place.offset;
     if let Region::Outside = region {
@@ -81,14 +54,14 @@ pub(crate) fn program<'a>(
     if let Region::Window = region {
         return plans::orders(codes::SUCCESS, program_in(region, offset, size));
     }
-    if !is_aligned(part.word_size, address, size) {
+    if !is_aligned(site.part.word_size, address, size) {
         return plans::tells(codes::NOT_ALIGNED);
     }
-    if place.is_protected {
+    if place.first_protected.is_some() {
         return plans::tells(codes::INVALID_RANGE);
     }
-    if !is_blank(region, offset, size, main, image, window) {
-        return plans::says(Reply::FlashError);
+    if !is_blank(region, offset, size, areas) {
+        return Planned::from(Reply::FlashError);
     }
     plans::orders(codes::SUCCESS, program_in(region, offset, size))
 }

@@ -1,13 +1,12 @@
 // Read back and Verify: neither changes memory.
 ghost use Rattle.std.specs.Prelude.{◌≡◌};
-ghost use Rattle.flash.specs.Regions.{place_of};
-ghost use Rattle.flash.specs.Memory.{memory};
+ghost use Rattle.flash.specs.Memory.{memory_in};
+ghost use Rattle.session_act.specs.Board.{board_in, place_on};
 ghost use Rattle.session_act.specs.Showing.{read_back_at, verify_at};
 
-use crate::{Order, Planned, plans};
-use flash::Region;
+use crate::{Order, Planned, Site, plans};
+use flash::{Areas, Region};
 use line::{Reply, codes};
-use parts::Part;
 
 const READOUT_ON: u16 = 0xAABB;
 
@@ -15,34 +14,16 @@ const READ_BACK_MOST: u32 = 1720;
 
 // Where the bytes of a range stand that may be read back.
 #[tactic(auto, unfolding(crate::specs::Showing::read_back_at, octets::specs::Choice::pick))]
-pub(crate) fn read_back(
-    part: Part,
-    readout: u16,
-    main_size: u32,
-    protection: &[u8],
-    settings_protected: u8,
-    address: u32,
-    size: u32,
-) -> Planned
-    ensures { result ≡ read_back_at readout size (place_of part main_size protection.now settings_protected address size) }
+pub(crate) fn read_back(site: Site<'_>, address: u32, size: u32) -> Planned
+    ensures { result ≡ read_back_at site.entry.shown.readout size (place_on (board_in site.entry) address size) }
 {
-    if readout != READOUT_ON {
+    if site.shown.readout != READOUT_ON {
         return plans::tells(codes::READOUT_OFF);
     }
-    if size == 0 {
+    if size == 0 || READ_BACK_MOST < size {
         return plans::tells(codes::INVALID_RANGE);
     }
-    if READ_BACK_MOST < size {
-        return plans::tells(codes::INVALID_RANGE);
-    }
-    let place = flash::locate(
-        part,
-        main_size,
-        protection,
-        settings_protected,
-        address,
-        size as u64,
-    );
+    let place = site.locate(address, u64::from(size));
     let region = place.region;
     if let Region::Outside = region {
         return plans::tells(codes::INVALID_RANGE);
@@ -58,38 +39,18 @@ pub(crate) fn read_back(
 
 // The checksum of a range that one region of flash holds wholly.
 #[tactic(auto, unfolding(crate::specs::Showing::verify_at, octets::specs::Choice::pick))]
-pub(crate) fn verify<'a>(
-    part: Part,
-    main_size: u32,
-    protection: &[u8],
-    settings_protected: u8,
-    address: u32,
-    size: u32,
-    main: &'a [u8],
-    image: &'a [u8],
-    window: &'a [u8],
-) -> Reply
-    ensures { result ≡ verify_at part size (memory main.now image.now window.now) (place_of part main_size protection.now settings_protected address size) }
+pub(crate) fn verify(site: Site<'_>, address: u32, size: u32, areas: Areas<'_>) -> Reply
+    ensures { result ≡ verify_at site.entry.part size (memory_in areas.entry) (place_on (board_in site.entry) address size) }
 {
-    let least = part.least_verify;
+    let least = site.part.least_verify;
     if size < least {
         return Reply::Message(codes::TOO_SMALL);
     }
-    let place = flash::locate(
-        part,
-        main_size,
-        protection,
-        settings_protected,
-        address,
-        size as u64,
-    );
+    let place = site.locate(address, u64::from(size));
     let region = place.region;
-    if let Region::Outside = region {
+    if let Region::Window | Region::Outside = region {
         return Reply::Message(codes::INVALID_RANGE);
     }
-    if let Region::Window = region {
-        return Reply::Message(codes::INVALID_RANGE);
-    }
-    let bytes = flash::bytes_in(region, place.offset, size as usize, main, image, window);
+    let bytes = flash::bytes_in(region, place.offset, size as usize, areas);
     Reply::Sum(checksum::checksum_of(bytes))
 }

@@ -3,7 +3,7 @@ ghost use Rattle.std.specs.Prelude.{◌≡◌};
 ghost use Rattle.parts.specs.Parts.{version_size};
 ghost use Rattle.session_act.specs.Info.{info_planned};
 
-use crate::{Order, Planned, plans};
+use crate::{Order, Planned};
 use flash::Region;
 use line::Reply;
 use settings::Shown;
@@ -28,10 +28,10 @@ pub(crate) fn info(long: bool, shown: Shown, main_size: usize) -> Planned
         bsl_id: shown.bsl_id,
     };
     if pointer % size != 0 {
-        return plans::says(reply);
+        return Planned::from(reply);
     }
-    if (main_size as u64) < pointer as u64 + size as u64 {
-        return plans::says(reply);
+    if (main_size as u64) < u64::from(pointer) + u64::from(size) {
+        return Planned::from(reply);
     }
     Planned {
         reply,

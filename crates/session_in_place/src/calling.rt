@@ -2,10 +2,12 @@
 ghost use Rattle.std.specs.Prelude.{◌≡◌};
 ghost use Rattle.parts.specs.Parts.{mspm0};
 ghost use Rattle.flash.specs.Memory.{memory};
-ghost use Rattle.session.specs.CallAnswers.{call_numbered, left};
+ghost use Rattle.session.specs.CallAnswers.{left};
 ghost use Rattle.session.specs.Calling.{call_of};
+ghost use Rattle.session_in_place.specs.Calling.{done_told};
 
-use session::{CallAnswer, Session};
+use crate::Done;
+use session::{CallError, Session};
 
 // The loader's call; the record becomes the session for the next call. A refused call leaves it as it was.
 pub fn call(
@@ -16,10 +18,13 @@ pub fn call(
     wait: u32,
     packet: &[u8],
     area: &mut [u8],
-) -> CallAnswer
-    ensures { left (call_numbered result) session.new (memory main.new image.new window.new) area.new ≡ call_of mspm0 session.old (memory main.old image.old window.old) wait packet.now area.old }
+) -> Result<Done, CallError>
+    ensures { left (done_told result) session.new (memory main.new image.new window.new) area.new ≡ call_of mspm0 session.old (memory main.old image.old window.old) wait packet.now area.old }
 {
-    let called = mspm0::call(*session, main, image, window, wait, packet, area);
+    let called = mspm0::call(*session, main, image, window, wait, packet, area)?;
     *session = called.session;
-    called.answer
+    Ok(Done {
+        size: called.size,
+        burn: called.burn,
+    })
 }

@@ -25,9 +25,7 @@ fn connected(standing: Standing) -> Standing
             sleep: 0,
         },
         idle: 0,
-        wrong: standing.wrong,
-        rate: standing.rate,
-        tries: standing.tries,
+        ..standing
     }
 }
 
@@ -39,9 +37,9 @@ const CONNECT_SIZE: usize = PACKET_FRAME + 1;
 fn heard_in_detect(last_rate: u8, standing: Standing, packet: &[u8]) -> Judged
     ensures { result ≡ heard_in_detect last_rate standing packet.now }
 {
-    if line::acknowledge(last_rate, packet) != codes::ACKNOWLEDGED {
+    let Ok(()) = line::acknowledge(last_rate, packet) else {
         return silently(standing);
-    }
+    };
     if octets::byte_at(packet, CORE_AT) != codes::CONNECT {
         return silently(standing);
     }
@@ -55,16 +53,7 @@ fn heard_in_detect(last_rate: u8, standing: Standing, packet: &[u8]) -> Judged
 fn is_known(command: Command) -> bool
     ensures { result ≡ is_known command }
 {
-    match command {
-        Command::Connect => true,
-        Command::Info => true,
-        Command::Unlock => true,
-        Command::Guarded(_) => true,
-        Command::Start => true,
-        Command::Rate(_) => true,
-        Command::WrongLength => true,
-        Command::Unknown => false,
-    }
+    !matches!(command, Command::Unknown)
 }
 
 // A command byte that is one of the twelve ends idle time.
@@ -73,13 +62,9 @@ fn stirred(standing: Standing, command: Command) -> Standing
     ensures { result ≡ stirred standing command }
 {
     if is_known(command) {
-        let phase = standing.phase;
         return Standing {
-            phase,
             idle: 0,
-            wrong: standing.wrong,
-            rate: standing.rate,
-            tries: standing.tries,
+            ..standing
         };
     }
     standing
@@ -96,9 +81,8 @@ fn heard_in_command(
 ) -> Judged
     ensures { result ≡ heard_in_command last_rate standing alert unlocked packet.now right }
 {
-    let code = line::acknowledge(last_rate, packet);
-    if code != codes::ACKNOWLEDGED {
-        return judgement::acknowledges(standing, code);
+    if let Err(error) = line::acknowledge(last_rate, packet) {
+        return judgement::acknowledges(standing, u8::from(error));
     }
     let command = line::read_command(packet);
     obeying::obeyed(stirred(standing, command), alert, unlocked, right, command)
@@ -119,16 +103,12 @@ pub fn judge(
 {
     let passed = session_state::pass_time(standing, wait);
     let after = passed.standing;
-    if !passed.heard {
+    if !passed.heard || packet.is_empty() {
         return silently(after);
     }
-    if packet.len() == 0 {
-        return silently(after);
-    }
-    let phase = after.phase;
-    match phase {
+    match after.phase {
         Phase::Detect => heard_in_detect(last_rate, after, packet),
-        Phase::Command { unlocked, sleep: _ } => {
+        Phase::Command { unlocked, .. } => {
             heard_in_command(last_rate, after, alert, unlocked, packet, right)
         }
         Phase::Standby | Phase::Ended | Phase::Disabled => silently(after),

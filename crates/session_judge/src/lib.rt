@@ -1,5 +1,6 @@
 // The judge: what a session does with a packet. It sees how the session stands, the alert setting, the wait, the packet, and one
-// bit: whether the packet carries the password. No memory and no password come in here.
+// bit: whether the packet carries the password. No memory and no password come in here. Of the part the last rate's id alone: a number stays in
+// a register.
 #![tactic(auto)]
 
 mod hearing;
@@ -12,7 +13,7 @@ use line::{Guarded, Reply};
 use session_state::Standing;
 
 // What is to be done. Only a session that is unlocked is told to perform a protected command.
-#[derive(Clone, Copy)]
+#[derive(Clone, Copy, Debug, PartialEq, Eq)]
 pub enum Effect {
     Say(Reply),
     TellInfo,
@@ -20,8 +21,8 @@ pub enum Effect {
     Perform(Guarded),
 }
 
-// How the session stands then, what is to be done, and whether the board burns its fuse.
-#[derive(Clone, Copy)]
+// How the session stands then, what is to be done, and whether the board burns its fuse. No Option: both stand there beside either answer.
+#[derive(Clone, Copy, Debug, PartialEq, Eq)]
 pub struct Judged {
     pub standing: Standing,
     pub effect: Effect,

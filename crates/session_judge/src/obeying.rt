@@ -13,27 +13,21 @@ fn ended(standing: Standing) -> Standing
 {
     Standing {
         phase: Phase::Ended,
-        idle: standing.idle,
-        wrong: standing.wrong,
-        rate: standing.rate,
-        tries: standing.tries,
+        ..standing
     }
 }
 
 fn with_rate(standing: Standing, id: u8) -> Standing
     ensures { result ≡ with_rate standing id }
 {
-    let phase = standing.phase;
     Standing {
-        phase,
-        idle: standing.idle,
-        wrong: standing.wrong,
         rate: id,
-        tries: standing.tries,
+        ..standing
     }
 }
 
 // What a session does with a command, by its lock; `right` is whether the packet carries its password.
+#[tactic(auto, unfolding(octets::specs::Choice::pick))]
 pub(crate) fn obeyed(
     standing: Standing,
     alert: u8,

@@ -2,11 +2,11 @@
 ghost use Rattle.std.specs.Prelude.{◌≡◌};
 ghost use Rattle.session_judge.specs.Unlocking.{counted_up, tried_once, after_wrong, alerted, tried};
 
-use crate::{Effect, Judged};
+use crate::{Effect, Judged, judgement};
 use line::{Reply, codes};
 use session_state::{MOST_SLEEP, MOST_TRIES, MOST_WRONG, Phase, RATE_ID_AT_START, Standing};
 
-// The values of the alert setting that do something.
+// The values of the alert setting that do something. The setting is a number: refusal 8 speaks of those that are none of them.
 const ALERT_RESET: u8 = 1;
 
 const ALERT_DISABLE: u8 = 2;
@@ -45,10 +45,10 @@ fn judged_wrong(standing: Standing, phase: Phase, effect: Effect, burn: bool) ->
 {
     let after = Standing {
         phase,
-        idle: standing.idle,
         wrong: counted_up(standing.wrong),
         rate: RATE_ID_AT_START,
         tries: tried_once(standing.tries),
+        ..standing
     };
     Judged {
         standing: after,
@@ -62,14 +62,12 @@ fn judged_wrong(standing: Standing, phase: Phase, effect: Effect, burn: bool) ->
 fn alerted(standing: Standing, alert: u8) -> Judged
     ensures { result ≡ alerted standing alert }
 {
-    if alert == ALERT_RESET {
-        return judged_wrong(standing, ASLEEP, Effect::Strike, false);
-    }
     let taken = Effect::Say(Reply::Message(codes::ALERT_TAKEN));
-    if alert == ALERT_DISABLE {
-        return judged_wrong(standing, Phase::Disabled, taken, true);
+    match alert {
+        ALERT_RESET => judged_wrong(standing, ASLEEP, Effect::Strike, false),
+        ALERT_DISABLE => judged_wrong(standing, Phase::Disabled, taken, true),
+        _ => judged_wrong(standing, ASLEEP, taken, false),
     }
-    judged_wrong(standing, ASLEEP, taken, false)
 }
 
 // A password was sent: it is right, wrong, or wrong too often.
@@ -83,16 +81,10 @@ pub(crate) fn tried(standing: Standing, alert: u8, right: bool) -> Judged
                 unlocked: true,
                 sleep: 0,
             },
-            idle: standing.idle,
             wrong: 0,
-            rate: standing.rate,
-            tries: standing.tries,
+            ..standing
         };
-        return Judged {
-            standing: unlocked,
-            effect: Effect::Say(Reply::Message(codes::SUCCESS)),
-            burn: false,
-        };
+        return judgement::tells(unlocked, codes::SUCCESS);
     }
     if counted_up(standing.wrong) < MOST_WRONG {
         let wrong = Effect::Say(Reply::Message(codes::PASSWORD_WRONG));

@@ -4,10 +4,10 @@
 ghost use Rattle.std.specs.Prelude.{◌≡◌};
 ghost use Rattle.line.specs.Commands.{is_silent};
 ghost use Rattle.line.specs.Replies.{sent};
-ghost use Rattle.flash.specs.Memory.{memory};
+ghost use Rattle.flash.specs.Memory.{memory_in};
 ghost use Rattle.session_send.specs.Answering.{without_core, hushed, answer_of};
 
-use flash::Region;
+use flash::{Areas, Region};
 use line::{CORE_AT, Reply, codes};
 
 // Only the 0x00 that a core reply would follow.
@@ -18,11 +18,7 @@ fn without_core(reply: Reply) -> Reply
         Reply::Silence => Reply::Silence,
         Reply::Acknowledged(code) => Reply::Acknowledged(code),
         Reply::Message(_) => Reply::Acknowledged(codes::ACKNOWLEDGED),
-        Reply::Info {
-            long: _,
-            bcr_id: _,
-            bsl_id: _,
-        } => Reply::Acknowledged(codes::ACKNOWLEDGED),
+        Reply::Info { .. } => Reply::Acknowledged(codes::ACKNOWLEDGED),
         Reply::Bytes => Reply::Acknowledged(codes::ACKNOWLEDGED),
         Reply::Sum(_) => Reply::Acknowledged(codes::ACKNOWLEDGED),
         Reply::FlashError => Reply::Acknowledged(codes::ACKNOWLEDGED),
@@ -35,10 +31,7 @@ fn is_silent(packet: &[u8]) -> bool
     ensures { result ≡ is_silent packet.now }
 {
     match octets::byte_at(packet, CORE_AT) {
-        codes::CONNECT => true,
-        codes::PROGRAM_FAST => true,
-        codes::START => true,
-        codes::RATE => true,
+        codes::CONNECT | codes::PROGRAM_FAST | codes::START | codes::RATE => true,
         _ => false,
     }
 }
@@ -56,24 +49,23 @@ fn hush(packet: &[u8], reply: Reply) -> Reply
 
 // Writes what is sent of a reply to the start of an area, and answers its size. The bytes that go with it are so many of a region, from a
 // place on that was looked up before. A reply for which there is no room, or of more than 1,729 bytes, is not written at all, and the answer is 0.
+// No Option: silence is 0 bytes too, and C gets the number as it is.
 #[tactic(auto, using(crate::proofs::AnsweringLaws::silence_sends_nothing), unfolding(crate::specs::Answering::answer_of))]
-pub fn answer<'a>(
+pub fn answer(
     reply: Reply,
     region: Region,
     offset: usize,
     count: u32,
     packet: &[u8],
-    main: &'a [u8],
-    image: &'a [u8],
-    window: &'a [u8],
+    areas: Areas<'_>,
     area: &mut [u8],
 ) -> usize
-    ensures { sent result area.new ≡ answer_of reply region offset count packet.now (memory main.now image.now window.now) area.old }
+    ensures { sent result area.new ≡ answer_of reply region offset count packet.now (memory_in areas.entry) area.old }
 {
     if let Reply::Silence = reply {
         return 0;
     }
     let told = hush(packet, reply);
-    let bytes = flash::bytes_in(region, offset, count as usize, main, image, window);
+    let bytes = flash::bytes_in(region, offset, count as usize, areas);
     line::write_reply(told, bytes, area)
 }

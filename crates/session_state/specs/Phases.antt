@@ -22,6 +22,14 @@ is_unlocked Standby = false
 is_unlocked Ended = false
 is_unlocked Disabled = false
 
+-- "with sleep left": in the command phase alone
+abbrev pub sleep_of : Phase → ℕ
+sleep_of Detect = 0
+sleep_of (Command unlocked sleep) = sleep
+sleep_of Standby = 0
+sleep_of Ended = 0
+sleep_of Disabled = 0
+
 -- 01, Numbers of refused calls, 10: "idle above 9,999, sleep above 2,000, wrong count above 3" are not valid
 abbrev pub most_idle : ℕ
 most_idle = 9999

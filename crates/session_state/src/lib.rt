@@ -2,6 +2,9 @@
 // No memory, no settings and no password in here.
 #![tactic(auto)]
 
+ghost use Rattle.std.specs.Prelude.{◌≡◌};
+ghost use Rattle.session_state.specs.Phases.{sleep_of};
+
 mod phases;
 mod rates;
 mod waits;
@@ -23,7 +26,7 @@ pub const MOST_TRIES: u32 = 65535;
 pub const RATE_ID_AT_START: u8 = 2;
 
 // The lock and the sleep that is left, in milliseconds, are there in the command phase alone.
-#[derive(Clone, Copy)]
+#[derive(Clone, Copy, Debug, PartialEq, Eq)]
 pub enum Phase {
     Detect,
     Command { unlocked: bool, sleep: u32 },
@@ -32,9 +35,21 @@ pub enum Phase {
     Disabled,
 }
 
+impl Phase {
+    // The sleep that is left, in milliseconds; there is none outside the command phase.
+    pub fn sleep(self) -> u32
+        ensures { result ≡ sleep_of self }
+    {
+        match self {
+            Phase::Command { sleep, .. } => sleep,
+            Phase::Detect | Phase::Standby | Phase::Ended | Phase::Disabled => 0,
+        }
+    }
+}
+
 // How a session stands: its phase, for how many milliseconds it has been idle, the count of wrong passwords, which a right one clears, the
 // rate id, and the total of wrong passwords, which nothing clears.
-#[derive(Clone, Copy)]
+#[derive(Clone, Copy, Debug, PartialEq, Eq)]
 pub struct Standing {
     pub phase: Phase,
     pub idle: u32,
@@ -43,8 +58,8 @@ pub struct Standing {
     pub tries: u32,
 }
 
-// How a session stands after a wait, and whether the packet that came then is heard.
-#[derive(Clone, Copy)]
+// How a session stands after a wait, and whether the packet that came then is heard. No Option: the session stands so in both cases.
+#[derive(Clone, Copy, Debug, PartialEq, Eq)]
 pub struct Passed {
     pub standing: Standing,
     pub heard: bool,

@@ -10,16 +10,15 @@ fn is_valid_phase(phase: Phase) -> bool
     ensures { result ≡ is_valid_phase phase }
 {
     match phase {
-        Phase::Detect => true,
-        Phase::Command { unlocked, sleep } => {
-            if unlocked {
-                return sleep == 0;
-            }
-            sleep <= MOST_SLEEP
-        }
-        Phase::Standby => true,
-        Phase::Ended => true,
-        Phase::Disabled => true,
+        Phase::Command {
+            unlocked: true,
+            sleep,
+        } => sleep == 0,
+        Phase::Command {
+            unlocked: false,
+            sleep,
+        } => sleep <= MOST_SLEEP,
+        Phase::Detect | Phase::Standby | Phase::Ended | Phase::Disabled => true,
     }
 }
 
@@ -28,13 +27,7 @@ fn is_valid_phase(phase: Phase) -> bool
 fn counts_fit(wrong: u8, tries: u32) -> bool
     ensures { result ≡ counts_fit wrong tries }
 {
-    if MOST_WRONG < wrong {
-        return false;
-    }
-    if tries < wrong as u32 {
-        return false;
-    }
-    tries <= MOST_TRIES
+    wrong <= MOST_WRONG && u32::from(wrong) <= tries && tries <= MOST_TRIES
 }
 
 // Whether a record may say that a session stands so, on a part whose last rate has the given id.
@@ -42,15 +35,8 @@ fn counts_fit(wrong: u8, tries: u32) -> bool
 pub fn is_valid(last_rate: u8, standing: Standing) -> bool
     ensures { result ≡ is_valid last_rate standing }
 {
-    if MOST_IDLE < standing.idle {
-        return false;
-    }
-    if !counts_fit(standing.wrong, standing.tries) {
-        return false;
-    }
-    if !line::is_rate(last_rate, standing.rate) {
-        return false;
-    }
-    let phase = standing.phase;
-    is_valid_phase(phase)
+    standing.idle <= MOST_IDLE
+        && counts_fit(standing.wrong, standing.tries)
+        && line::is_rate(last_rate, standing.rate)
+        && is_valid_phase(standing.phase)
 }

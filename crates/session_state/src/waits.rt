@@ -13,7 +13,7 @@ const IDLE_LIMIT: u32 = 10000;
 fn is_idle_too_long(standing: Standing, rest: u32) -> bool
     ensures { result ≡ is_idle_too_long standing rest }
 {
-    IDLE_LIMIT as u64 <= standing.idle as u64 + rest as u64
+    u64::from(IDLE_LIMIT) <= u64::from(standing.idle) + u64::from(rest)
 }
 
 // Another phase and idle time; the wrong count, the rate and the total stay.
@@ -23,14 +23,12 @@ fn moved_to(standing: Standing, phase: Phase, idle: u32) -> Standing
     Standing {
         phase,
         idle,
-        wrong: standing.wrong,
-        rate: standing.rate,
-        tries: standing.tries,
+        ..standing
     }
 }
 
 // The rest of a wait is idle time: in this phase below the limit, and from the limit on as `over` says.
-#[tactic(auto, unfolding(octets::specs::Choice::pick))]
+#[tactic(auto, using(crate::proofs::WaitLaws::idle_below_limit), unfolding(octets::specs::Choice::pick))]
 fn idled(standing: Standing, phase: Phase, rest: u32, over: Passed) -> Passed
     ensures { result ≡ pick (is_idle_too_long standing rest) over (heard (moved_to standing phase (standing.idle + rest))) }
 {
@@ -75,8 +73,7 @@ fn command_idles(standing: Standing, unlocked: bool, rest: u32) -> Passed
 pub fn pass_time(standing: Standing, wait: u32) -> Passed
     ensures { result ≡ pass_time standing wait }
 {
-    let phase = standing.phase;
-    match phase {
+    match standing.phase {
         Phase::Detect => detect_idles(standing, wait),
         Phase::Command { unlocked, sleep } => {
             if wait < sleep {
@@ -91,15 +88,7 @@ pub fn pass_time(standing: Standing, wait: u32) -> Passed
             }
             command_idles(standing, unlocked, wait - sleep)
         }
-        Phase::Standby => Passed {
-            standing,
-            heard: false,
-        },
-        Phase::Ended => Passed {
-            standing,
-            heard: false,
-        },
-        Phase::Disabled => Passed {
+        Phase::Standby | Phase::Ended | Phase::Disabled => Passed {
             standing,
             heard: false,
         },

@@ -13,7 +13,7 @@ use Rattle.octets.proofs.Parts.{length_part, parts_join, part_of_part, each_part
 use Rattle.octets.proofs.Searching.{pick_true, pick_false, pick_both}
 use Rattle.octets.proofs.StoreLaws.{stored_front}
 use Rattle.settings.specs.declared.Form.{Form}
-use Rattle.settings.specs.declared.Settings.{Settings}
+use Rattle.settings.specs.Held.{Settings}
 use Rattle.settings.specs.Values.{is_allowed, no_settings}
 use Rattle.settings.specs.Layout.{form1, layout_of, offset_of, sum_of}
 use Rattle.settings.specs.declared.Form.TheVariants.{One}

@@ -1,20 +1,19 @@
 -- The bodies joined piece by piece, and found where an image has them.
-use mathlib.Core.Path.{◌≡◌, refl, sym, ap, ◌∙◌}
+use mathlib.Core.Path.{◌≡◌, sym, ap, ◌∙◌}
 use mathlib.Core.List.{List, ◌++◌, append-nil, append_assoc}
 use Prim.Native.Nat.{ℕ, ◌+◌, ◌-◌, ◌≤◌}
 use native.Mathlib.Omega.{arith}
 use borrow.Author.Tests.{eq-eqb}
 use lib.Dec.{eqb}
-use lib.ListN.{length, get_or, drop, replicate, length-append, length-replicate}
-use lib.Seq.{sets, get_or-take, get_or-drop}
+use lib.ListN.{length, get_or, take, drop, replicate, length-append, length-replicate}
+use lib.Seq.{sets, take_at, get_or-take, get_or-drop}
 use Rattle.octets.specs.Choice.{pick}
 use Rattle.octets.specs.Number.{bytes_of, part}
 use Rattle.octets.proofs.Parts.{length_part, part_of_part}
 use Rattle.octets.proofs.Searching.{pick_true}
-use Rattle.octets.proofs.StoreLaws.{sets_join, stored_whole}
+use Rattle.octets.proofs.StoreLaws.{sets_join, stored_front, stored_whole}
 use Rattle.settings.specs.declared.Shown.{Shown}
-use Rattle.settings.specs.declared.Settings.{Settings}
-use Rattle.settings.specs.declared.Kept.{Kept}
+use Rattle.settings.specs.Held.{Settings, Kept}
 use Rattle.settings.specs.Values.{no_settings}
 use Rattle.settings.specs.declared.Form.{Form}
 use Rattle.settings.specs.declared.Form.TheVariants.{One, Two}
@@ -41,11 +40,17 @@ module _ (p r s : List ℕ) (lp : length p ≡ 32) (lr : length r ≡ 16) (ls : 
       ∙ sets_join (replicate 66 0) 0 32 p (r ++ s) (omega arith)
       ∙ stored_whole (replicate 66 0) (p ++ (r ++ s)) (sym length_five)
 
-  -- and then the protection, of any size
-  pub protection_joined : (size : ℕ) (q : List ℕ) → length q ≡ size → sets (sets (replicate (66 + size) 0) 0 (p ++ (r ++ s))) 66 q ≡ p ++ (r ++ (s ++ q))
-  protection_joined size q lq =
-      sets_join (replicate (66 + size) 0) 0 66 (p ++ (r ++ s)) q (omega (arith, length_five))
-      ∙ stored_whole (replicate (66 + size) 0) ((p ++ (r ++ s)) ++ q) (length-replicate (66 + size) 0 ∙ sym (length-append (p ++ (r ++ s)) q ∙ omega (arith, length_five)))
+  -- and then the protection, of any size that there is room for
+  pub protection_joined : (size : ℕ) (q : List ℕ) → length q ≡ size → size ≤ 32
+      → part 0 (66 + size) (sets (sets (replicate 98 0) 0 (p ++ (r ++ s))) 66 q) ≡ p ++ (r ++ (s ++ q))
+  protection_joined size q lq few =
+      let five : List ℕ = p ++ (r ++ s) in
+      let zeros : List ℕ = replicate 98 0 in
+      let all : length (five ++ q) ≡ 66 + size = length-append five q ∙ omega (arith, length_five, lq) in
+      let room : length (five ++ q) ≤ length zeros = omega (arith, all, few, length-replicate {A = ℕ} 98 0) in
+      ap (take (66 + size))
+      (sets_join zeros 0 66 five q (omega (arith, length_five)) ∙ stored_front zeros (five ++ q) room)
+      ∙ take_at (five ++ q) (drop (length (five ++ q)) zeros) (66 + size) all
       ∙ append_assoc p (r ++ s) q ∙ ap (λ (l : List ℕ). p ++ l) (append_assoc r s q)
 
 -- bodies 3 to 5 as one
@@ -71,12 +76,6 @@ pub bodies_begin : (form : Form) → bodies_at form ≤ 60
 bodies_begin One = omega arith
 bodies_begin Two = omega arith
 
--- body 3 stands 48 bytes after the bodies' begin
-pub values_there : (form : Form) (image : List ℕ) → part (bodies_at form + 48) 6 image ≡ body_in (layout_of form) 3 image
-unfolding offset_of sum_of
-values_there One image = refl
-values_there Two image = refl
-
 -- byte 53 of the six bodies is the last of body 3
 pub sixth : (fields : List ℕ) → get_or fields 53 0 ≡ get_or (part 48 6 fields) 5 0
 sixth fields = sym (get_or-take 6 (drop 48 fields) 5 0 (omega arith) ∙ get_or-drop 48 fields 5 0)
@@ -86,12 +85,6 @@ pub length_all_bodies : (form : Form) (six name : List ℕ) → length six ≡ 7
     → length (six ++ name_body form name) ≡ filler_at form - bodies_at form
 length_all_bodies One six name b n = simp append-nil (omega arith)
 length_all_bodies Two six name b n = simp length-append (omega arith)
-
--- the name, which stands after the others
-pub name_joined : (form : Form) (area six name : List ℕ) → length six ≡ 74
-    → sets (sets area (bodies_at form) six) 134 (name_body form name) ≡ sets area (bodies_at form) (six ++ name_body form name)
-name_joined One area six name b = rw (append-nil six)
-name_joined Two area six name b = sets_join area 60 134 six name (omega arith)
 
 -- ---- the bodies of an image, taken out of it
 

@@ -13,8 +13,7 @@ use Rattle.octets.specs.Number.{part}
 use Rattle.octets.proofs.Parts.{length_part}
 use Rattle.octets.proofs.Searching.{pick_true, pick_false, by_test}
 use Rattle.octets.proofs.StoreLaws.{sets_out, sets_join, stored_front, stored_whole}
-use Rattle.settings.specs.declared.Settings.{Settings}
-use Rattle.settings.specs.declared.Kept.{Kept}
+use Rattle.settings.specs.Held.{Settings, Kept}
 use Rattle.settings.specs.Layout.{form1, offset_of, sum_of}
 use Rattle.settings.specs.Bodies.{shown_in, settings_in}
 use Rattle.settings.specs.Fields.{fields_read}

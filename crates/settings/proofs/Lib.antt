@@ -1,7 +1,7 @@
 -- What the proofs share, the lowest first.
--- LayoutLaws: the entries and the table that a layout gives.
+-- LayoutLaws: how many entries a form has.
 pub mod LayoutLaws
--- TableLaws: the table stored number by number.
+-- TableLaws: how long the table is.
 pub mod TableLaws
 -- BodyLaws: the bodies joined piece by piece, and found where an image has them.
 pub mod BodyLaws
@@ -13,6 +13,8 @@ pub mod KeptLaws
 pub mod WriterLaws
 -- ReaderLaws: what the reader tells beside its number.
 pub mod ReaderLaws
+-- CheckLaws: what is found of an image in the layout of its form.
+pub mod CheckLaws
 -- PassingLaws: what an image has passed that is found to be written.
 pub mod PassingLaws
 -- MoveLaws: an image that is moved is what the writer would make.

@@ -1,4 +1,5 @@
 -- What an image has passed that is found to be written in a form; and that whoever passes it is found to be so.
+use Rattle.std.specs.Prelude.{Option, Some, None, Ok, Err}
 use mathlib.Core.Path.{◌≡◌, refl, sym, ap, subst, ◌∙◌}
 use mathlib.Core.Bool.{Bool, true, false, false≢true, not}
 use mathlib.Core.List.{List}
@@ -15,14 +16,10 @@ use Rattle.settings.specs.declared.Form.{Form}
 use Rattle.settings.specs.declared.Form.TheVariants.{One, Two}
 use Rattle.settings.specs.declared.Forms.{Forms}
 use Rattle.settings.specs.declared.Forms.TheVariants.{Both, OnlyOne, OnlyTwo}
-use Rattle.settings.specs.declared.Found.{Found}
-use Rattle.settings.specs.declared.Found.TheVariants.{Known, Unknown}
 use Rattle.settings.specs.declared.Refusal.TheVariants as refusal
-use Rattle.settings.specs.declared.Checked.{Checked}
-use Rattle.settings.specs.declared.Checked.TheVariants as checked
 use Rattle.settings.specs.Layout.{layout_of, image_size}
 use Rattle.settings.specs.Entries.{differing_entry}
-use Rattle.settings.specs.Reader.{is_blank, checksum_differs, is_form, found_in, filler_differs, value_not_allowed, checked_in, checked_found, checked_written, checked_of}
+use Rattle.settings.specs.Reader.{Checked, is_blank, checksum_differs, is_form, found_in, filler_differs, value_not_allowed, checked_in, checked_found, checked_written, checked_of}
 
 -- the tests of the reader, in their order
 pub record Passed (form : Form) (image : List ℕ) : Type 0 where
@@ -46,18 +43,18 @@ takes OnlyTwo Two = true
 
 module _ (forms : Forms) (image : List ℕ) where
   unfoldable pub Good : Checked → Type 0
-  Good checked.Blank = is_blank image ≡ true
-  Good (checked.Written form) = Passed form image × (takes forms form ≡ true)
-  Good (checked.Refused refusal) = Unit
+  Good (Ok None) = is_blank image ≡ true
+  Good (Ok (Some form)) = Passed form image × (takes forms form ≡ true)
+  Good (Err refusal) = Unit
 
-  GoodForm : Found → Type 0
-  GoodForm (Known form) = (is_form form image ≡ true) × (takes forms form ≡ true)
-  GoodForm Unknown = Unit
+  GoodForm : Option Form → Type 0
+  GoodForm (Some form) = (is_form form image ≡ true) × (takes forms form ≡ true)
+  GoodForm None = Unit
 
   module _ (size : length image ≡ image_size) (written : all_are 0xFF image ≡ false) (checksum : checksum_differs image ≡ false) where
-    form_is_good : (found : Found) → GoodForm found → Good (checked_found image found)
+    form_is_good : (found : Option Form) → GoodForm found → Good (checked_found image found)
     unfolding GoodForm Good checked_in
-    form_is_good (Known form) known =
+    form_is_good (Some form) known =
         by_pick Good (not (eqb (differing_entry (layout_of form) image) 0)) _ _ (λ y. tt)
         (λ entries. by_pick Good (filler_differs form image) _ _ (λ y. tt)
         (λ filler. by_pick Good (value_not_allowed form image) _ _ (λ y. tt)
@@ -73,7 +70,7 @@ module _ (forms : Forms) (image : List ℕ) where
           },
           known.1,
         ))))
-    form_is_good Unknown known = tt
+    form_is_good None known = tt
 
 module _ (image : List ℕ) where
   found_is_good : (forms : Forms) → GoodForm forms image (found_in forms image)
@@ -106,7 +103,7 @@ other_form_back image is =
     let one : number_at 0 2 image ≡ 1 = eqb-true _ _ (pick_both _ _ is).0 in
     pick_false _ false (ne_eqb (number_at 0 2 image) 2 (λ two. omega arith))
 
-is_found : (forms : Forms) (form : Form) (image : List ℕ) → takes forms form ≡ true → is_form form image ≡ true → found_in forms image ≡ Known form
+is_found : (forms : Forms) (form : Form) (image : List ℕ) → takes forms form ≡ true → is_form form image ≡ true → found_in forms image ≡ Some form
 unfolding takes found_in
 is_found Both One image taken is = pick_true _ _ is
 is_found Both Two image taken is = pick_false _ _ (other_form image is) ∙ pick_true _ _ is
@@ -115,7 +112,7 @@ is_found OnlyOne Two image taken is = absurd (false≢true taken)
 is_found OnlyTwo One image taken is = absurd (false≢true taken)
 is_found OnlyTwo Two image taken is = pick_true _ _ is
 
-not_found : (forms : Forms) (form : Form) (image : List ℕ) → takes forms form ≡ false → is_form form image ≡ true → found_in forms image ≡ Unknown
+not_found : (forms : Forms) (form : Form) (image : List ℕ) → takes forms form ≡ false → is_form form image ≡ true → found_in forms image ≡ None
 unfolding takes found_in
 not_found Both One image left is = absurd (false≢true (sym left))
 not_found Both Two image left is = absurd (false≢true (sym left))
@@ -129,18 +126,22 @@ module _ (forms : Forms) (form : Form) (image : List ℕ) (passed : Passed form 
   unfolding checked_of checked_written pick
   not_blank = rw (eq-eqb (length image) image_size passed.size, passed.written, passed.checksum)
 
-  passes_form : checked_in form image ≡ checked.Written form
+  passes_form : checked_in form image ≡ Ok (Some form)
   unfolding checked_in pick
   passes_form = rw (passed.entries, passed.filler, passed.value)
 
-  pub passes : takes forms form ≡ true → checked_of forms image ≡ checked.Written form
+  pub passes : takes forms form ≡ true → checked_of forms image ≡ Ok (Some form)
   passes taken = not_blank ∙ ap (checked_found image) (is_found forms form image taken passed.known) ∙ passes_form
 
   -- "5 to the form it does not start from"
-  pub other_is_refused : takes forms form ≡ false → checked_of forms image ≡ checked.Refused refusal.FormUnknown
+  pub other_is_refused : takes forms form ≡ false → checked_of forms image ≡ Err refusal.FormUnknown
   other_is_refused left = not_blank ∙ ap (checked_found image) (not_found forms form image left passed.known)
 
 -- what is found to be written has passed the tests
-pub written_has_passed : (forms : Forms) (image : List ℕ) (form : Form) → checked_of forms image ≡ checked.Written form → Passed form image
+pub written_has_passed : (forms : Forms) (image : List ℕ) (form : Form) → checked_of forms image ≡ Ok (Some form) → Passed form image
 unfolding Good
 written_has_passed forms image form e = (subst (Good forms image) e (checked_is_good image forms)).0
+
+-- so its values are allowed
+pub written_is_allowed : (forms : Forms) (image : List ℕ) (form : Form) → checked_of forms image ≡ Ok (Some form) → value_not_allowed form image ≡ false
+written_is_allowed forms image form e = (written_has_passed forms image form e).value

@@ -1,4 +1,4 @@
--- The table stored number by number.
+-- The table as bytes: how long it is, and stored number by number.
 use mathlib.Core.Path.{◌≡◌, refl, sym, ap, ◌∙◌}
 use mathlib.Core.List.{List, [], ◌∷◌}
 use Prim.Native.Nat.{ℕ, zero, suc, ◌+◌, ◌*◌, ◌<◌}
@@ -9,7 +9,7 @@ use lib.Seq.{sets, drop-cons}
 use Rattle.octets.specs.Number.{bytes_of}
 use Rattle.octets.proofs.Numbers.{length-bytes_of}
 use Rattle.octets.proofs.StoreLaws.{sets_join}
-use Rattle.settings.specs.Layout.{Layout, count_of, entry_of, entries_from, table_of, pairs_of}
+use Rattle.settings.specs.Layout.{Layout, count_of, table_end, entry_of, entries_from, table_of, pairs_of}
 
 length_entries : (layout : Layout) (entry count : ℕ) → length (entries_from layout entry count) ≡ 4 * count
 unfolding entries_from
@@ -26,6 +26,10 @@ unfolding pairs_of
 length_pairs [] = refl
 length_pairs (n ∷ numbers) =
     length-append (bytes_of 2 n) (pairs_of numbers) ∙ omega (arith, length-bytes_of 2 n, length_pairs numbers)
+
+-- the table as bytes
+pub table_before : (layout : Layout) → length (pairs_of (table_of layout)) ≡ table_end layout
+table_before layout = omega (arith, length_pairs (table_of layout), length_table layout)
 
 -- one number of the table, and then the others
 pub put_next : (area numbers : List ℕ) (place : ℕ) → place < length numbers

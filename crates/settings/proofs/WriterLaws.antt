@@ -1,30 +1,25 @@
 -- Written piece by piece, the pieces make the image.
-use mathlib.Core.Path.{◌≡◌, sym, ap, ◌∙◌}
-use mathlib.Core.List.{List, ◌++◌, append_assoc}
-use Prim.Native.Nat.{ℕ, ◌-◌, ◌≤◌}
+use mathlib.Core.Path.{◌≡◌, sym, ap, ap₂, ◌∙◌}
+use mathlib.Core.List.{List, ◌++◌, append-nil, append_assoc}
+use Prim.Native.Nat.{ℕ, ◌+◌, ◌-◌, ◌≤◌}
 use native.Mathlib.Omega.{arith}
 use lib.ListN.{length, take, drop, replicate, length-append, length-replicate, take-append-drop}
 use lib.Seq.{sets, take_at, drop-drop}
-use borrow.Rule.Slice.PartMut.{put_mid, mid_of}
+use Rattle.std.proofs.lemmas.List.{drop-replicate, take-replicate}
 use Rattle.octets.specs.Number.{bytes_of, part}
 use Rattle.octets.proofs.Numbers.{length-bytes_of}
 use Rattle.octets.proofs.Parts.{length_part}
-use Rattle.octets.proofs.StoreLaws.{sets_join, stored_front, stored_whole, filled_part}
+use Rattle.octets.proofs.StoreLaws.{sets_join, stored_front, stored_whole}
 use Rattle.checksum.specs.Checksum.{checksum_of}
 use Rattle.settings.specs.declared.Form.{Form}
 use Rattle.settings.specs.declared.Form.TheVariants.{One, Two}
-use Rattle.settings.specs.Layout.{form1, layout_of, checksum_at, bodies_end, table_of, pairs_of}
+use Rattle.settings.specs.Layout.{Layout, form1, layout_of, checksum_at, table_end, bodies_end, table_of, pairs_of}
 use Rattle.settings.specs.Table.{bodies_at, filler_at, table_ends, bodies_end_lem}
-use Rattle.settings.proofs.TableLaws.{length_table, length_pairs}
+use Rattle.settings.proofs.TableLaws.{length_table, length_pairs, table_before}
 use Rattle.settings.specs.Bodies.{name_body}
 use Rattle.settings.proofs.BodyLaws.{length_all_bodies}
 use Rattle.settings.specs.Image.{filler_of, sealed}
-
--- the filler where the bodies end, whatever number that is
-pub filler_put : (form : Form) (area : List ℕ) (from : ℕ) → bodies_end (layout_of form) ≡ from → from ≤ checksum_at → checksum_at ≤ length area
-    → put_mid from (checksum_at - from) area (replicate (length (mid_of from (checksum_at - from) area)) 0xFF)
-    ≡ sets area (bodies_end (layout_of form)) (filler_of form)
-filler_put form area from e h l = rw e (filled_part area from checksum_at 0xFF h l)
+use Rattle.settings.specs.Layouts.{front_laid_out, laid_out}
 
 -- the bodies stand before the filler, and the filler before the checksum
 pub filler_there : (form : Form) → (bodies_at form ≤ filler_at form) × (filler_at form ≤ 198)
@@ -49,14 +44,70 @@ module _ (form : Form) (six name : List ℕ) (bodies : length six ≡ 74) (size 
       simp (length-append (pairs_of (table_of (layout_of form))), length-append all, length-replicate, bodies_end_lem form)
       (omega (arith, all_bodies, table_size, there.0, there.1))
 
-  -- table, bodies and filler
-  pub front_joined : (area : List ℕ)
-      → sets (sets (sets area 0 (pairs_of (table_of (layout_of form)))) (bodies_at form) all) (bodies_end (layout_of form)) (filler_of form)
-      ≡ sets area 0 (pairs_of (table_of (layout_of form)) ++ (all ++ filler_of form))
-  front_joined area =
-      sets_join (sets area 0 (pairs_of (table_of (layout_of form)))) (bodies_at form) (bodies_end (layout_of form)) all (filler_of form)
-      (omega (arith, all_bodies, bodies_end_lem form, (filler_there form).0))
-      ∙ sets_join area 0 (bodies_at form) (pairs_of (table_of (layout_of form))) (all ++ filler_of form) (omega (arith, table_size))
+  form_size : table_end (layout_of form) + length six + length (name_body form name) ≡ bodies_end (layout_of form)
+  form_size =
+      let there = filler_there form in
+      omega (arith, all_bodies, length-append six (name_body form name), table_ends form, bodies_end_lem form, there.0)
+
+-- ---- in any layout
+
+-- over bytes that are alike no more of them need be stored
+filled_on : (size value count : ℕ) (bytes : List ℕ) → length bytes + count ≤ size
+    → sets (replicate size value) 0 bytes ≡ sets (replicate size value) 0 (bytes ++ replicate count value)
+filled_on size value count bytes room =
+    let area : List ℕ = replicate size value in
+    let more : List ℕ = replicate count value in
+    let all : length area ≡ size = length-replicate size value in
+    let both : length (bytes ++ more) ≡ length bytes + count = length-append bytes more ∙ omega (arith, length-replicate {A = ℕ} count value) in
+    let here : take count (drop (length bytes) area) ≡ more =
+    ap (take count) (drop-replicate (length bytes) size value) ∙ take-replicate count (size - length bytes) value (omega arith) in
+    let after : drop count (drop (length bytes) area) ≡ drop (length (bytes ++ more)) area =
+    drop-drop count (length bytes) area ∙ ap (λ (n : ℕ). drop n area) (sym both) in
+    stored_front area bytes (omega (arith, all))
+    ∙ ap (λ (rest : List ℕ). bytes ++ rest) (sym (take-append-drop count (drop (length bytes) area)) ∙ ap₂ (λ (one two : List ℕ). one ++ two) here after)
+    ∙ sym (append_assoc bytes more (drop (length (bytes ++ more)) area)) ∙ sym (stored_front area (bytes ++ more) (omega (arith, all, both)))
+
+module _ (layout : Layout) (six name : List ℕ) (size : ℕ) (fits : bodies_end layout ≤ checksum_at)
+    (ends : table_end layout + length six + length name ≡ bodies_end layout) (room : 1024 ≤ size) where
+  abbrev all_of_it : List ℕ
+  all_of_it = pairs_of (table_of layout) ++ ((six ++ name) ++ replicate (checksum_at - bodies_end layout) 0xFF)
+
+  length_laid_out : length all_of_it ≡ 1020
+  length_laid_out =
+      simp (length-append (pairs_of (table_of layout)), length-append (six ++ name), length-append six, length-replicate)
+      (omega (arith, table_before layout, ends, fits))
+
+  front_made : front_laid_out layout six name size ≡ sets (replicate size 0xFF) 0 all_of_it
+  front_made =
+      let area : List ℕ = replicate size 0xFF in
+      let table : List ℕ = pairs_of (table_of layout) in
+      sets_join (sets area 0 table) (table_end layout) (bodies_end layout - length name) six name (omega (arith, ends))
+      ∙ sets_join area 0 (table_end layout) table (six ++ name) (omega (arith, table_before layout))
+      ∙ filled_on size 0xFF (checksum_at - bodies_end layout) (table ++ (six ++ name))
+      (omega (arith, length-append table (six ++ name), length-append six name, table_before layout, ends, fits, room))
+      ∙ ap (λ (bytes : List ℕ). sets area 0 bytes) (append_assoc table (six ++ name) (replicate (checksum_at - bodies_end layout) 0xFF))
+
+  pub laid_out_made : laid_out layout six name size ≡ sealed all_of_it ++ replicate (size - 1024) 0xFF
+  unfolding laid_out
+  laid_out_made =
+      let area : List ℕ = replicate size 0xFF in
+      let whole : length area ≡ size = length-replicate size 0xFF in
+      let taken : take 1020 (sets area 0 all_of_it) ≡ all_of_it =
+      ap (take 1020) (stored_front area all_of_it (omega (arith, whole, length_laid_out, room))) ∙ take_at all_of_it (drop (length all_of_it) area) 1020 length_laid_out in
+      let half : length (sealed all_of_it) ≡ 1024 =
+      omega (arith, length-bytes_of 4 (checksum_of all_of_it), length_laid_out, length-append all_of_it (bytes_of 4 (checksum_of all_of_it))) in
+      rw (front_made, taken)
+      (sets_join area 0 1020 all_of_it (bytes_of 4 (checksum_of all_of_it)) (omega (arith, length_laid_out))
+      ∙ filled_on size 0xFF (size - 1024) (sealed all_of_it) (omega (arith, half, room))
+      ∙ stored_whole area (sealed all_of_it ++ replicate (size - 1024) 0xFF)
+      (omega (arith, length-append (sealed all_of_it) (replicate (size - 1024) 0xFF), length-replicate {A = ℕ} (size - 1024) 0xFF, half, room, whole)))
+
+-- as a form has it
+pub form_laid_out : (form : Form) (six name : List ℕ) → length six ≡ 74 → length name ≡ 64
+    → laid_out (layout_of form) six (name_body form name) 1024 ≡ sealed (pairs_of (table_of (layout_of form)) ++ ((six ++ name_body form name) ++ filler_of form))
+form_laid_out form six name bodies size =
+    laid_out_made (layout_of form) six (name_body form name) 1024 (omega (arith, bodies_end_lem form, (filler_there form).1)) (form_size form six name bodies size) (omega arith)
+    ∙ append-nil (sealed (pairs_of (table_of (layout_of form)) ++ ((six ++ name_body form name) ++ filler_of form)))
 
 -- ---- the checksum
 

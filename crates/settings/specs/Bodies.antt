@@ -2,10 +2,10 @@
 use Rattle.std.specs.Prelude.{ℕ, List, [], ◌∷◌, ◌++◌, get_or}
 use Rattle.octets.specs.Number.{bytes_of, part, number_at}
 use Rattle.settings.specs.declared.Shown.{Shown}
-use Rattle.settings.specs.declared.Settings.{Settings}
+use Rattle.settings.specs.Held.{Settings}
 use Rattle.settings.specs.declared.Form.{Form}
 use Rattle.settings.specs.declared.Form.TheVariants.{One, Two}
-use Rattle.settings.specs.declared.Contents.{Contents}
+use Rattle.settings.specs.Held.{Contents}
 use Rattle.settings.specs.Values.{no_name}
 use Rattle.settings.specs.Layout.{Layout, form2, layout_of, length_of, offset_of}
 

@@ -1,7 +1,7 @@
 -- The fields of some settings: their six bodies by themselves, bytes 52 to 125 of an image of form 1 and 60 to 133 of form 2.
 use Rattle.std.specs.Prelude.{ℕ, ◌-◌, List, ◌++◌, eqb, length, replicate}
 use Rattle.octets.specs.Choice.{pick}
-use Rattle.settings.specs.declared.Settings.{Settings}
+use Rattle.settings.specs.Held.{Settings}
 use Rattle.settings.specs.Values.{no_settings}
 use Rattle.settings.specs.Layout.{Layout, table_end, bodies_end}
 use Rattle.settings.specs.Bodies.{settings_in}

@@ -5,7 +5,7 @@ use Rattle.octets.specs.Number.{bytes_of, part}
 use Rattle.checksum.specs.Checksum.{checksum_of}
 use Rattle.settings.specs.declared.Form.{Form}
 use Rattle.settings.specs.declared.Form.TheVariants.{One}
-use Rattle.settings.specs.declared.Contents.{Contents}
+use Rattle.settings.specs.Held.{Contents}
 use Rattle.settings.specs.Layout.{form1, layout_of, image_size, checksum_at, bodies_end, table_of, pairs_of}
 use Rattle.settings.specs.Bodies.{all_bodies_of}
 

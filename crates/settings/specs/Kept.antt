@@ -4,8 +4,8 @@ use Rattle.std.specs.Prelude.{ℕ, Bool, true, List, ◌++◌, eqb, length, repl
 use Rattle.std.proofs.lemmas.List.Edits.{sets}
 use Rattle.octets.specs.Choice.{pick}
 use Rattle.octets.specs.Number.{part}
-use Rattle.settings.specs.declared.Settings.{Settings}
-use Rattle.settings.specs.declared.Kept.{Kept}
+use Rattle.settings.specs.declared.Held.{Held}
+use Rattle.settings.specs.Held.{Settings, Kept}
 use Rattle.settings.specs.Values.{blank_settings, no_settings}
 use Rattle.settings.specs.Layout.{form1}
 use Rattle.settings.specs.Bodies.{bodies_with, shown_in}
@@ -14,6 +14,15 @@ use Rattle.settings.specs.Fields.{fields_read, kept_size}
 -- of sectors of which nothing is said none is protected
 abbrev pub filled_up : List ℕ → List ℕ
 filled_up protection = sets (replicate 32 0) 0 protection
+
+-- the same with protection of another size
+abbrev pub resized_of : {from : ℕ} → (size : ℕ) → Held from → Held size
+resized_of size held = record {
+  shown = held.shown;
+  protection = sets (replicate size 0) 0 held.protection;
+  password = held.password;
+  reset_password = held.reset_password;
+}
 
 -- an MSPM0 says it of 64 sectors
 abbrev pub kept_of : Settings → Kept
@@ -31,7 +40,11 @@ blank_kept = kept_of blank_settings
 abbrev pub no_kept : Kept
 no_kept = kept_of no_settings
 
--- the six bodies: 98 bytes, of which an MSPM0's record has the first 74
+-- the six bodies
+abbrev pub held_bodies : {size : ℕ} → Held size → List ℕ
+held_bodies held = bodies_with held.password held.reset_password held.shown held.protection
+
+-- they are 98 bytes, of which an MSPM0's record has the first 74
 abbrev pub long_size : ℕ
 long_size = 98
 

@@ -57,10 +57,6 @@ offset_of layout entry = table_end layout + sum_of (take (entry - 1) layout.leng
 abbrev pub bodies_end : Layout → ℕ
 bodies_end layout = offset_of layout (count_of layout + 1)
 
--- what is said of each entry, for as many as the longer table has
-abbrev pub seven_of : (ℕ → ℕ) → List ℕ
-seven_of said = said 1 ∷ said 2 ∷ said 3 ∷ said 4 ∷ said 5 ∷ said 6 ∷ said 7 ∷ []
-
 -- "kind, offset, length, zero"
 abbrev pub entry_of : Layout → ℕ → List ℕ
 entry_of layout entry = entry ∷ offset_of layout entry ∷ length_of layout entry ∷ 0 ∷ []

@@ -1,5 +1,5 @@
 -- 01, Numbers of refused calls: "Checked in this order .. the settings reader 3-8"; T-09, which form an image has.
-use Rattle.std.specs.Prelude.{ℕ, ◌-◌, Bool, false, not, List, eqb, length, get_or, take}
+use Rattle.std.specs.Prelude.{ℕ, ◌-◌, Bool, false, not, List, eqb, length, get_or, take, Option, Some, None, Result, Ok, Err}
 use Rattle.octets.specs.Choice.{pick}
 use Rattle.octets.specs.Number.{part, number_at}
 use Rattle.octets.specs.Alike.{all_are}
@@ -8,11 +8,8 @@ use Rattle.settings.specs.declared.Form.{Form}
 use Rattle.settings.specs.declared.Form.TheVariants.{One, Two}
 use Rattle.settings.specs.declared.Forms.{Forms}
 use Rattle.settings.specs.declared.Forms.TheVariants.{Both, OnlyOne, OnlyTwo}
-use Rattle.settings.specs.declared.Found.{Found}
-use Rattle.settings.specs.declared.Found.TheVariants.{Known, Unknown}
+use Rattle.settings.specs.declared.Refusal.{Refusal}
 use Rattle.settings.specs.declared.Refusal.TheVariants.{SizeWrong, ChecksumDiffers, FormUnknown, EntryDiffers, FillerDiffers, ValueNotAllowed}
-use Rattle.settings.specs.declared.Checked.{Checked}
-use Rattle.settings.specs.declared.Checked.TheVariants as checked
 use Rattle.settings.specs.Layout.{layout_of, image_size, checksum_at, count_of, bodies_end}
 use Rattle.settings.specs.Entries.{differing_entry}
 use Rattle.settings.specs.Bodies.{body_in, shown_in, contents_in}
@@ -33,10 +30,10 @@ is_form form image =
     pick (eqb (number_at 0 2 image) (layout_of form).form) (eqb (number_at 2 2 image) (count_of (layout_of form))) false
 
 -- the form of an image, among those that are taken: by the reader both, by a move the one that it starts from
-unfoldable pub found_in : Forms → List ℕ → Found
-found_in Both image = pick (is_form One image) (Known One) (pick (is_form Two image) (Known Two) Unknown)
-found_in OnlyOne image = pick (is_form One image) (Known One) Unknown
-found_in OnlyTwo image = pick (is_form Two image) (Known Two) Unknown
+unfoldable pub found_in : Forms → List ℕ → Option Form
+found_in Both image = pick (is_form One image) (Some One) (pick (is_form Two image) (Some Two) None)
+found_in OnlyOne image = pick (is_form One image) (Some One) None
+found_in OnlyTwo image = pick (is_form Two image) (Some Two) None
 
 -- 7: "a byte of 126..1,019 is not 0xFF"; T-09: "0xFF fills the rest up to the checksum"
 unfoldable pub filler_differs : Form → List ℕ → Bool
@@ -48,33 +45,37 @@ unfoldable pub value_not_allowed : Form → List ℕ → Bool
 value_not_allowed form image =
     not (pick (is_allowed (shown_in (layout_of form) image)) (eqb (get_or (body_in (layout_of form) 3 image) 5 0) 0) false)
 
+-- what an image is found to be: refused, blank, or written in a form
+abbrev pub Checked : Type 0
+Checked = Result (Option Form) Refusal
+
 -- what an image of a form is found to be
 unfoldable pub checked_in : Form → List ℕ → Checked
 checked_in form image =
-    pick (not (eqb (differing_entry (layout_of form) image) 0)) (checked.Refused (EntryDiffers (differing_entry (layout_of form) image)))
-    (pick (filler_differs form image) (checked.Refused FillerDiffers)
-    (pick (value_not_allowed form image) (checked.Refused ValueNotAllowed)
-    (checked.Written form)))
+    pick (not (eqb (differing_entry (layout_of form) image) 0)) (Err (EntryDiffers (differing_entry (layout_of form) image)))
+    (pick (filler_differs form image) (Err FillerDiffers)
+    (pick (value_not_allowed form image) (Err ValueNotAllowed)
+    (Ok (Some form))))
 
-abbrev pub checked_found : List ℕ → Found → Checked
-checked_found image (Known form) = checked_in form image
-checked_found image Unknown = checked.Refused FormUnknown
+abbrev pub checked_found : List ℕ → Option Form → Checked
+checked_found image (Some form) = checked_in form image
+checked_found image None = Err FormUnknown
 
 -- what an image that is not blank is found to be
 unfoldable pub checked_written : Forms → List ℕ → Checked
 checked_written forms image =
-    pick (checksum_differs image) (checked.Refused ChecksumDiffers) (checked_found image (found_in forms image))
+    pick (checksum_differs image) (Err ChecksumDiffers) (checked_found image (found_in forms image))
 
 -- what an image is found to be: blank, written in one of the forms that are taken, or refused
 unfoldable pub checked_of : Forms → List ℕ → Checked
 checked_of forms image =
-    pick (not (eqb (length image) image_size)) (checked.Refused SizeWrong)
-    (pick (is_blank image) checked.Blank (checked_written forms image))
+    pick (not (eqb (length image) image_size)) (Err SizeWrong)
+    (pick (is_blank image) (Ok None) (checked_written forms image))
 
 abbrev pub read_as : List ℕ → Checked → ReadTold
-read_as image checked.Blank = accepted blank_contents
-read_as image (checked.Written form) = accepted (contents_in form image)
-read_as image (checked.Refused refusal) = refused (refusal_numbered refusal)
+read_as image (Ok None) = accepted blank_contents
+read_as image (Ok (Some form)) = accepted (contents_in form image)
+read_as image (Err refusal) = refused (refusal_numbered refusal)
 
 -- the reader
 unfoldable pub read_of : List ℕ → ReadTold

@@ -2,9 +2,9 @@
 use Rattle.std.specs.Prelude.{Bool, false, List, ℕ, leb, replicate}
 use Rattle.octets.specs.Choice.{pick}
 use Rattle.settings.specs.declared.Shown.{Shown}
-use Rattle.settings.specs.declared.Settings.{Settings}
+use Rattle.settings.specs.Held.{Settings}
 use Rattle.settings.specs.declared.Form.TheVariants.{One}
-use Rattle.settings.specs.declared.Contents.{Contents}
+use Rattle.settings.specs.Held.{Contents}
 
 -- "reset mode (0 off, 1 on, 2 with password), alert (0 nothing, 1 reset, 2 disable), readout (two bytes, on only at 0xAABB), settings protected (0 or 1)":
 -- any readout is allowed

@@ -4,7 +4,7 @@ use Rattle.octets.specs.Choice.{pick}
 use Rattle.octets.specs.Alike.{all_are}
 use Rattle.settings.specs.declared.Form.{Form}
 use Rattle.settings.specs.declared.Form.TheVariants.{One, Two}
-use Rattle.settings.specs.declared.Contents.{Contents}
+use Rattle.settings.specs.Held.{Contents}
 use Rattle.settings.specs.Layout.{image_size}
 use Rattle.settings.specs.Values.{is_allowed}
 use Rattle.settings.specs.Image.{image_of}

@@ -9,11 +9,5 @@ use crate::Shown;
 pub fn are_allowed(shown: Shown) -> bool
     ensures { result ≡ is_allowed shown }
 {
-    if 2 < shown.reset_mode {
-        return false;
-    }
-    if 2 < shown.alert {
-        return false;
-    }
-    shown.settings_protected <= 1
+    shown.reset_mode <= 2 && shown.alert <= 2 && shown.settings_protected <= 1
 }

@@ -4,7 +4,7 @@ ghost use Rattle.octets.specs.Number.{part};
 ghost use Rattle.settings.specs.Layout.{form1};
 ghost use Rattle.settings.specs.Bodies.{shown_in};
 ghost use Rattle.settings.specs.Fields.{fields_read};
-ghost use Rattle.settings.specs.Kept.{filled_up, is_fields_size, kept_read, narrowed_of};
+ghost use Rattle.settings.specs.Kept.{filled_up, is_fields_size, kept_read};
 
 use crate::{
     FIELDS_SIZE, IDS_AT, KEPT_SIZE, Kept, PASSWORD_AT, POINTER_AT, PROTECTION_AT,
@@ -67,10 +67,7 @@ fn protection_in(fields: &[u8]) -> [u8; 32]
 fn is_fields_size(size: usize) -> bool
     ensures { result ≡ is_fields_size size }
 {
-    if size == FIELDS_SIZE {
-        return true;
-    }
-    size == KEPT_SIZE
+    size == FIELDS_SIZE || size == KEPT_SIZE
 }
 
 // What a session keeps of fields, of either part. Bytes of another size say none. Each body is read here alone: a second place that reads
@@ -94,24 +91,6 @@ pub fn read_kept(fields: &[u8]) -> Kept
     }
 }
 
-// What of them an MSPM0's image holds.
-fn narrowed(kept: Kept) -> Settings
-    ensures { result ≡ narrowed_of kept }
-{
-    let shown = kept.shown;
-    let all = kept.protection;
-    let password = kept.password;
-    let reset_password = kept.reset_password;
-    let mut protection = [0u8; 8];
-    octets::put(&mut protection, 0, &all);
-    Settings {
-        shown,
-        protection,
-        password,
-        reset_password,
-    }
-}
-
 // The settings that some fields say. Bytes of another size say none.
 #[tactic(auto, using(crate::proofs::KeptLaws::narrowed_back), unfolding(crate::specs::Fields::fields_read, crate::specs::Layout::offset_of, crate::specs::Layout::sum_of, octets::specs::Choice::pick))]
 pub fn read_fields(fields: &[u8]) -> Settings
@@ -120,5 +99,5 @@ pub fn read_fields(fields: &[u8]) -> Settings
     if fields.len() != FIELDS_SIZE {
         return presets::none();
     }
-    narrowed(read_kept(fields))
+    presets::resized::<32, 8>(read_kept(fields))
 }

@@ -1,12 +1,12 @@
 // The bodies stored.
-ghost use Rattle.std.specs.Prelude.{◌≡◌, ◌++◌};
+ghost use Rattle.std.specs.Prelude.{◌≡◌, ◌++◌, ◌≤◌};
 ghost use Rattle.std.proofs.lemmas.List.Edits.{sets};
 ghost use Rattle.settings.specs.Bodies.{values_of, numbers_of, bodies_of};
-ghost use Rattle.settings.specs.Kept.{kept_bodies};
+ghost use Rattle.settings.specs.Kept.{held_bodies, kept_bodies};
 
 use crate::{
-    FIELDS_SIZE, KEPT_SIZE, Kept, PASSWORD_AT, PROTECTION_AT, RESET_PASSWORD_AT, Settings, Shown,
-    VALUES_AT,
+    FIELDS_SIZE, Held, KEPT_SIZE, Kept, PASSWORD_AT, PROTECTION_AT, RESET_PASSWORD_AT, Settings,
+    Shown, VALUES_AT,
 };
 
 // Bodies 3 to 5: six bytes, then three numbers of four.
@@ -37,46 +37,39 @@ fn first_five(password: [u8; 32], reset_password: [u8; 16], shown: [u8; 18]) -> 
     fields
 }
 
+// Stores the six bodies from a place on, as many bytes as there is room for.
+fn put_bodies<const N: usize>(area: &mut [u8], at: usize, held: Held<N>)
+    requires { N ≤ 32 }
+    ensures { area.new ≡ sets area.old at (held_bodies held.entry) }
+{
+    let five = first_five(held.password, held.reset_password, shown_of(held.shown));
+    let mut bodies = [0u8; KEPT_SIZE];
+    octets::put(&mut bodies, PASSWORD_AT, &five);
+    octets::put(&mut bodies, PROTECTION_AT, &held.protection);
+    octets::put(area, at, octets::part_of(&bodies, 0, PROTECTION_AT + N));
+}
+
 // The fields of some settings.
 pub(crate) fn fields_of(settings: Settings) -> [u8; 74]
     ensures { result ≡ bodies_of settings }
 {
-    let password = settings.password;
-    let reset_password = settings.reset_password;
-    let protection = settings.protection;
-    let five = first_five(password, reset_password, shown_of(settings.shown));
     let mut fields = [0u8; FIELDS_SIZE];
-    octets::put(&mut fields, PASSWORD_AT, &five);
-    octets::put(&mut fields, PROTECTION_AT, &protection);
-    fields
-}
-
-// The fields of what a session keeps.
-fn fields_kept(kept: Kept) -> [u8; 98]
-    ensures { result ≡ kept_bodies kept }
-{
-    let password = kept.password;
-    let reset_password = kept.reset_password;
-    let protection = kept.protection;
-    let five = first_five(password, reset_password, shown_of(kept.shown));
-    let mut fields = [0u8; KEPT_SIZE];
-    octets::put(&mut fields, PASSWORD_AT, &five);
-    octets::put(&mut fields, PROTECTION_AT, &protection);
+    put_bodies::<8>(&mut fields, 0, settings);
     fields
 }
 
 // Stores the fields of some settings from a place on, where there is room for them.
+#[tactic(auto, unfolding(crate::specs::Bodies::bodies_of))]
 pub fn put_fields(area: &mut [u8], at: usize, settings: Settings)
     ensures { area.new ≡ sets area.old at (bodies_of settings) }
 {
-    let fields = fields_of(settings);
-    octets::put(area, at, &fields);
+    put_bodies::<8>(area, at, settings);
 }
 
 // Stores the fields of what a session keeps from a place on, as many bytes as there is room for.
+#[tactic(auto, unfolding(crate::specs::Kept::kept_bodies))]
 pub fn put_kept(area: &mut [u8], at: usize, kept: Kept)
     ensures { area.new ≡ sets area.old at (kept_bodies kept) }
 {
-    let bodies = fields_kept(kept);
-    octets::put(area, at, &bodies);
+    put_bodies::<32>(area, at, kept);
 }

@@ -1,10 +1,16 @@
 // The settings of a board: as values, as the fields of an image, and as the image whole, read and written by one layout for each form.
 #![tactic(auto)]
 
+ghost use Rattle.std.specs.Prelude.{◌≡◌};
+ghost use Rattle.settings.specs.Layout.{layout_of};
+ghost use Rattle.settings.specs.Forms.{Numbers};
+ghost use Rattle.settings.specs.declared.MoveError.TheVariants.{Image};
+
 mod allowed;
 mod checks;
 mod fields_reader;
 mod fields_writer;
+mod layouts;
 mod moves;
 mod places;
 mod presets;
@@ -13,15 +19,17 @@ mod table;
 mod writer;
 
 pub use allowed::are_allowed;
+pub use checks::check_laid_out;
 pub use fields_reader::{read_fields, read_kept};
 pub use fields_writer::{put_fields, put_kept};
+pub use layouts::ImageLayout;
 pub use moves::{to_form_1, to_form_2};
 pub use presets::{blank, blank_kept, none, none_kept};
 pub use reader::{accepts, read, read_settings};
-pub use writer::{reseal, write};
+pub use writer::{put_laid_out, reseal, write};
 
-// What may be shown of the settings: raw numbers, as they stand in bodies 3, 4 and 5.
-#[derive(Clone, Copy)]
+// What may be shown of the settings: raw numbers, as they stand in bodies 3, 4 and 5. Numbers, since refusal 8 tells of values that an enum would not have.
+#[derive(Clone, Copy, Debug, PartialEq, Eq)]
 pub struct Shown {
     pub reset_mode: u8,
     pub alert: u8,
@@ -32,38 +40,69 @@ pub struct Shown {
     pub version_pointer: u32,
 }
 
-// The settings. The two passwords stand apart from all that may be shown.
+// The settings, with protection of so many bytes. The two passwords stand apart from all that may be shown. Nothing prints or compares these:
+// no Debug, and no PartialEq, which stops at the first byte that differs.
 #[derive(Clone, Copy)]
-pub struct Settings {
+pub struct Held<const N: usize> {
     pub shown: Shown,
-    pub protection: [u8; 8],
+    pub protection: [u8; N],
     pub password: [u8; 32],
     pub reset_password: [u8; 16],
 }
+
+// Those of an MSPM0's image.
+pub type Settings = Held<8>;
 
 // What a session keeps of them, on either part: with protection for as many sectors as the larger one has.
-#[derive(Clone, Copy)]
-pub struct Kept {
-    pub shown: Shown,
-    pub protection: [u8; 32],
-    pub password: [u8; 32],
-    pub reset_password: [u8; 16],
-}
+pub type Kept = Held<32>;
 
 // The forms of an image: 01's, and the one with a name.
-#[derive(Clone, Copy)]
+#[derive(Clone, Copy, Debug, PartialEq, Eq)]
 pub enum Form {
     One,
     Two,
 }
 
+// No form has the number.
+#[derive(Clone, Copy, Debug, PartialEq, Eq)]
+pub struct UnknownForm;
+
+impl From<Form> for u16 {
+    ghost from_gives = { λ form number. number ≡ (layout_of form).form };
+
+    fn from(form: Form) -> u16 {
+        match form {
+            Form::One => 1,
+            Form::Two => 2,
+        }
+    }
+}
+
+impl TryFrom<u16> for Form {
+    type Error = UnknownForm;
+
+    ghost try_from_gives = { Numbers };
+
+    #[tactic(auto, unfolding(crate::specs::Forms::is_form_number, octets::specs::Choice::pick))]
+    fn try_from(number: u16) -> Result<Form, UnknownForm> {
+        match number {
+            1 => Ok(Form::One),
+            2 => Ok(Form::Two),
+            _ => Err(UnknownForm),
+        }
+    }
+}
+
 // What an image holds: the settings, and beside them its form and a name.
 #[derive(Clone, Copy)]
-pub struct Contents {
+pub struct ImageContents<const N: usize> {
     pub form: Form,
-    pub settings: Settings,
+    pub settings: Held<N>,
     pub name: [u8; 64],
 }
+
+// That of an MSPM0.
+pub type Contents = ImageContents<8>;
 
 // Where each of the six bodies begins, among them: the first at the start, each other where the one before it ends.
 const PASSWORD_AT: usize = 0;
@@ -98,7 +137,7 @@ pub const IMAGE_SIZE: usize = 1024;
 pub const CHECKSUM_AT: usize = 1020;
 
 // Why an image is refused. An entry is told by its number, counted from 1.
-#[derive(Clone, Copy)]
+#[derive(Clone, Copy, Debug, PartialEq, Eq)]
 pub enum Refusal {
     SizeWrong,
     ChecksumDiffers,
@@ -108,63 +147,33 @@ pub enum Refusal {
     ValueNotAllowed,
 }
 
-// What the reader answers.
-#[derive(Clone, Copy)]
-pub enum ReadAnswer {
-    Accepted,
-    Refused(Refusal),
-}
-
-// The answer, and the contents that were read; beside a refusal stand settings that no call takes.
-#[derive(Clone, Copy)]
-pub struct Reading {
-    pub answer: ReadAnswer,
-    pub contents: Contents,
-}
-
-// What a session takes of them: the settings alone.
-#[derive(Clone, Copy)]
-pub struct SettingsReading {
-    pub answer: ReadAnswer,
-    pub settings: Kept,
-}
-
-// What the writer answers.
-#[derive(Clone, Copy)]
-pub enum WriteAnswer {
-    Written,
+// Why the writer refuses.
+#[derive(Clone, Copy, Debug, PartialEq, Eq)]
+pub enum WriteError {
     SizeWrong,
     ValueNotAllowed,
     NameNotEmpty,
 }
 
-// What a move answers.
-#[derive(Clone, Copy)]
-pub enum MoveAnswer {
-    Moved,
-    Refused(Refusal),
+// Why a move is refused.
+#[derive(Clone, Copy, Debug, PartialEq, Eq)]
+pub enum MoveError {
+    Image(Refusal),
     NameNotEmpty,
 }
 
-// Which forms are taken: by the reader both, by a move the one that it starts from.
-#[derive(Clone, Copy)]
+impl From<Refusal> for MoveError {
+    ghost from_gives = { λ refusal error. error ≡ Image refusal };
+
+    fn from(refusal: Refusal) -> MoveError {
+        MoveError::Image(refusal)
+    }
+}
+
+// Which forms are taken: by the reader both, by a move the one that it starts from. No `Option<Form>`: its `None` would have to say both.
+#[derive(Clone, Copy, Debug, PartialEq, Eq)]
 pub enum Forms {
     Both,
     OnlyOne,
     OnlyTwo,
-}
-
-// The form of an image, if it is one of those.
-#[derive(Clone, Copy)]
-pub enum Found {
-    Known(Form),
-    Unknown,
-}
-
-// What an image is found to be.
-#[derive(Clone, Copy)]
-pub enum Checked {
-    Blank,
-    Written(Form),
-    Refused(Refusal),
 }

@@ -1,9 +1,9 @@
 // What stands for a blank image, or for none.
 ghost use Rattle.std.specs.Prelude.{◌≡◌};
-ghost use Rattle.settings.specs.Values.{blank_settings, no_settings, no_name, blank_contents, no_contents};
-ghost use Rattle.settings.specs.Kept.{kept_of, blank_kept, no_kept};
+ghost use Rattle.settings.specs.Values.{blank_settings, no_settings, no_name, blank_contents};
+ghost use Rattle.settings.specs.Kept.{resized_of, blank_kept, no_kept};
 
-use crate::{Contents, Form, Kept, NAME_SIZE, Settings, Shown};
+use crate::{Contents, Form, Held, Kept, NAME_SIZE, Settings, Shown};
 
 // The settings of a blank image.
 pub fn blank() -> Settings
@@ -26,7 +26,7 @@ pub fn blank() -> Settings
     }
 }
 
-// What stands beside a refusal: settings with a reset mode that no call takes.
+// What bytes of another size say: settings with a reset mode that no call takes. Its numbers are all that it has.
 pub fn none() -> Settings
     ensures { result ≡ no_settings }
 {
@@ -47,21 +47,17 @@ pub fn none() -> Settings
     }
 }
 
-// Settings as a session keeps them: no sector beyond the 64th is protected.
-fn kept(settings: Settings) -> Kept
-    ensures { result ≡ kept_of settings }
+// The same with protection of another size: of sectors of which nothing is said none is protected.
+pub(crate) fn resized<const M: usize, const N: usize>(held: Held<M>) -> Held<N>
+    ensures { result ≡ resized_of N held.entry }
 {
-    let shown = settings.shown;
-    let first = settings.protection;
-    let password = settings.password;
-    let reset_password = settings.reset_password;
-    let mut protection = [0u8; 32];
-    octets::put(&mut protection, 0, &first);
-    Kept {
-        shown,
+    let mut protection = [0u8; N];
+    octets::put(&mut protection, 0, &held.protection);
+    Held {
+        shown: held.shown,
         protection,
-        password,
-        reset_password,
+        password: held.password,
+        reset_password: held.reset_password,
     }
 }
 
@@ -69,14 +65,14 @@ fn kept(settings: Settings) -> Kept
 pub fn blank_kept() -> Kept
     ensures { result ≡ blank_kept }
 {
-    kept(blank())
+    resized::<8, 32>(blank())
 }
 
-// What stands beside a refusal, and no call takes.
+// The same of the settings that a session keeps.
 pub fn none_kept() -> Kept
     ensures { result ≡ no_kept }
 {
-    kept(none())
+    resized::<8, 32>(none())
 }
 
 // The name of an image that has none.
@@ -94,16 +90,6 @@ pub(crate) fn blank_contents() -> Contents
     Contents {
         form: Form::One,
         settings: blank(),
-        name: no_name(),
-    }
-}
-
-pub(crate) fn no_contents() -> Contents
-    ensures { result ≡ no_contents }
-{
-    Contents {
-        form: Form::One,
-        settings: none(),
         name: no_name(),
     }
 }

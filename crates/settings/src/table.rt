@@ -1,41 +1,35 @@
-// The table of an image, two bytes a number: stored, and looked at entry by entry.
-ghost use Rattle.std.specs.Prelude.{◌≡◌};
+// The table of an image: stored, and looked at entry by entry.
+ghost use Rattle.std.specs.Prelude.{◌≡◌, ◌<◌, unwrap_or, IfSome};
 ghost use Rattle.std.proofs.lemmas.List.Edits.{sets};
-ghost use Rattle.settings.specs.Layout.{layout_of, table_of, pairs_of};
+ghost use Rattle.settings.specs.Layout.{table_of, pairs_of};
 ghost use Rattle.settings.specs.Entries.{differing_entry};
 
-use crate::{Form, places};
+use crate::{ImageLayout, places};
 
-// Stores the table of a form from the start on, as far as there is room.
-#[tactic(auto, using(crate::proofs::LayoutLaws::count_is_few, crate::proofs::TableLaws::length_table, crate::proofs::TableLaws::put_next), unfolding(crate::specs::Layout::pairs_of))]
-pub(crate) fn put_table(form: Form, image: &mut [u8])
-    ensures { image.new ≡ sets image.old 0 (pairs_of (table_of (layout_of form))) }
+// Stores the layout's table from the start on, as far as there is room.
+pub(crate) fn put_table<L: ImageLayout>(image: &mut [u8])
+    ensures { image.new ≡ sets image.old 0 (pairs_of (table_of L.layout)) }
 {
-    let count = 2 + 4 * places::entries_of(form);
-    for place in 0..count {
-        let number = places::table_number(form, place);
-        octets::put_number(image, 2 * place, 2, number as u32);
-    }
+    octets::put(image, 0, L::table());
 }
 
-// The number of the first entry that differs from the form's table, counted from 1; 0 where none does.
+// The number of the first entry that differs from the layout's table, if one does. Entries are counted from 1. Document 01 has two loops that
+// are left by a label.
 #[tactic(auto, unfolding(crate::specs::Entries::differing_entry, crate::specs::Entries::entry_differs, crate::specs::Entries::field_differs))]
-pub(crate) fn differing_entry(form: Form, image: &[u8]) -> usize
-    ensures { result ≡ differing_entry (layout_of form) image.now }
+pub(crate) fn differing_entry<L: ImageLayout>(image: &[u8]) -> Option<u8>
+    ensures number { unwrap_or result 0 ≡ differing_entry L.layout image.now }
+    ensures counted { IfSome result (λ entry. 0 < entry) }
 {
-    let entries = places::entries_of(form);
-    let mut passed = 0;
-    let differing = 'search: loop {
-        if entries <= passed {
-            break 'search 0;
-        }
-        for field in 0..4 {
-            let place = 2 + 4 * passed + field;
-            if octets::number16_at(image, 2 * place) != places::table_number(form, place) {
-                break 'search passed + 1;
+    let entries = places::entries_of::<L>();
+    'search: {
+        for entry in 1..=entries {
+            for field in 0..4 {
+                let place = 2 + 4 * (entry - 1) + field;
+                if octets::number16_at(image, 2 * place) != places::table_number::<L>(place) {
+                    break 'search Some(entry as u8);
+                }
             }
         }
-        passed += 1;
-    };
-    differing
+        None
+    }
 }

@@ -1,29 +1,35 @@
 -- The bodies found where an image has them, and the image made of its pieces.
 use mathlib.Core.Path.{◌≡◌, sym, ap, ap₂, ◌∙◌}
+use mathlib.Core.Bool.{not}
 use mathlib.Core.List.{List, ◌++◌}
 use Prim.Native.Nat.{ℕ, ◌+◌, ◌-◌, ◌≤◌}
 use native.Mathlib.Omega.{arith}
 use borrow.Author.Tests.{eq-eqb, ne_eqb}
-use borrow.Rule.Slice.PartMut.{put_mid, mid_of}
-use lib.ListN.{length, get_or, take, drop, replicate, length-append, length-replicate}
-use lib.Seq.{sets, take_at}
-use Rattle.octets.specs.Number.{bytes_of, part}
-use Rattle.octets.proofs.Numbers.{length-bytes_of}
+use lib.Dec.{eqb}
+use lib.ListN.{length, get_or, replicate, length-append, length-replicate}
+use lib.Seq.{sets}
+use Rattle.octets.specs.Number.{part}
 use Rattle.octets.proofs.Parts.{length_part, part_of_part}
 use Rattle.octets.proofs.Searching.{pick_true, pick_false}
-use Rattle.octets.proofs.StoreLaws.{sets_join, stored_front, stored_whole, filled_part}
-use Rattle.checksum.specs.Checksum.{checksum_of}
+use Rattle.octets.proofs.StoreLaws.{stored_whole}
 use Rattle.settings.specs.declared.Shown.{Shown}
+use Rattle.settings.specs.declared.Form.TheVariants.{Two}
+use Rattle.settings.specs.declared.Refusal.TheVariants.{EntryDiffers}
 use Rattle.settings.specs.Layout.{form1, large, checksum_at, bodies_end, table_of, pairs_of, offset_of, sum_of}
 use Rattle.settings.specs.Table.{large_bodies_end}
 use Rattle.settings.specs.Bodies.{body_in, shown_in}
 use Rattle.settings.specs.Fields.{fields_read}
 use Rattle.settings.specs.Kept.{kept_of, no_kept, kept_said, kept_read}
-use Rattle.settings.specs.Image.{sealed}
+use Rattle.settings.specs.Entries.{differing_entry}
+use Rattle.settings.specs.Reader.{checksum_differs, is_form}
+use Rattle.settings.specs.Layouts.{is_laid_out, rest_differs, value_wrong, checked_parts, checked_laid_out, laid_out}
 use Rattle.settings.proofs.BodyLaws.{sixth}
 use Rattle.settings.proofs.TableLaws.{length_table, length_pairs}
+use Rattle.settings.proofs.WriterLaws.{laid_out_made}
+use Rattle.settings.proofs.CheckLaws.{told, told_picks, told_tests}
 use Rattle.settings_large.specs.Contents.{kept_in}
-use Rattle.settings_large.specs.Image.{large_filler, front_with}
+use Rattle.settings_large.specs.Reader.{filler_differs, value_not_allowed, checked_in, checked_written}
+use Rattle.settings_large.specs.Image.{large_filler, front_with, image_with}
 
 -- ---- the bodies of an image, taken out of it
 
@@ -60,12 +66,14 @@ module _ (image : List ℕ) where
   unfolding offset_of sum_of
   zero_there = sixth (part 60 98 image) ∙ ap (λ (l : List ℕ). get_or l 5 0) (within 48 6 (omega arith))
 
--- ---- the pieces of an image
+-- what is found of an image in this part's layout
+pub large_checked : (image : List ℕ) → checked_written image ≡ told Two (checked_laid_out large image)
+unfolding checked_written checked_in filler_differs value_not_allowed is_form checked_laid_out checked_parts is_laid_out rest_differs value_wrong
+large_checked image =
+    told_tests Two (checksum_differs image) (not (is_form Two image)) _ _
+    (told_picks Two (EntryDiffers (differing_entry large image)) (not (eqb (differing_entry large image) 0)) (filler_differs image) (value_not_allowed image))
 
-pub filler_put : (area : List ℕ) → length area ≡ 2048
-    → put_mid 222 (checksum_at - 222) area (replicate (length (mid_of 222 (checksum_at - 222) area)) 0xFF) ≡ sets area 222 large_filler
-unfolding large_filler
-filler_put area l = rw large_bodies_end (filled_part area 222 checksum_at 0xFF (omega arith) (omega arith))
+-- ---- the pieces of an image
 
 pub length_filler : length large_filler ≡ 798
 unfolding large_filler
@@ -79,22 +87,9 @@ module _ (bodies name : List ℕ) (six : length bodies ≡ 98) (size : length na
   length_front =
       simp (length-append (pairs_of (table_of large)), length-append (bodies ++ name), length-append bodies) (omega (arith, length_filler, table_size))
 
-  pub front_joined : (area : List ℕ)
-      → sets (sets (sets area 0 (pairs_of (table_of large))) 60 (bodies ++ name)) 222 large_filler ≡ sets area 0 (front_with bodies name)
-  front_joined area =
-      sets_join (sets area 0 (pairs_of (table_of large))) 60 222 (bodies ++ name) large_filler (omega (arith, length-append bodies name))
-      ∙ sets_join area 0 60 (pairs_of (table_of large)) ((bodies ++ name) ++ large_filler) (omega (arith, table_size))
-
--- the checksum of what comes before it, and then the second half
-pub image_made : (area front : List ℕ) → length area ≡ 2048 → length front ≡ 1020
-    → sets (sets (sets area 0 front) 1020 (bytes_of 4 (checksum_of (take 1020 (sets area 0 front))))) 1024 (replicate 1024 0xFF)
-    ≡ sealed front ++ replicate 1024 0xFF
-image_made area front l f =
-    let taken : take 1020 (sets area 0 front) ≡ front =
-    ap (take 1020) (stored_front area front (omega arith)) ∙ take_at front (drop (length front) area) 1020 f in
-    let four = length-bytes_of 4 (checksum_of front) in
-    let half : length (sealed front) ≡ 1024 = omega (arith, length-append front (bytes_of 4 (checksum_of front))) in
-    rw taken
-    (ap (λ (left : List ℕ). sets left 1024 (replicate 1024 0xFF)) (sets_join area 0 1020 front (bytes_of 4 (checksum_of front)) (omega arith))
-    ∙ sets_join area 0 1024 (sealed front) (replicate 1024 0xFF) (omega arith)
-    ∙ stored_whole area (sealed front ++ replicate 1024 0xFF) (l ∙ sym (length-append (sealed front) (replicate 1024 0xFF) ∙ omega (arith, length-replicate {A = ℕ} 1024 0xFF))))
+  -- the bodies are put into an array of their own size
+  pub image_made : laid_out large (sets (replicate 98 0) 0 bodies) name 2048 ≡ image_with bodies name
+  unfolding large_filler
+  image_made =
+      rw (stored_whole (replicate 98 0) bodies (length-replicate {A = ℕ} 98 0 ∙ sym six))
+      (laid_out_made large bodies name 2048 (omega (arith, large_bodies_end)) (omega (arith, large_bodies_end, six, size)) (omega arith))

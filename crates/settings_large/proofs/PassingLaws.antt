@@ -1,4 +1,5 @@
 -- What an image has passed that is found to be written; and that whoever passes it is found to be so.
+use Rattle.std.specs.Prelude.{Some, None, Ok, Err}
 use mathlib.Core.Path.{◌≡◌, subst}
 use mathlib.Core.Bool.{true, false, not}
 use mathlib.Core.List.{List}
@@ -11,11 +12,9 @@ use Rattle.octets.specs.Alike.{all_are}
 use Rattle.octets.proofs.Searching.{by_pick}
 use Rattle.settings.specs.declared.Form.{Form}
 use Rattle.settings.specs.declared.Form.TheVariants.{Two}
-use Rattle.settings.specs.declared.Checked.{Checked}
-use Rattle.settings.specs.declared.Checked.TheVariants as checked
 use Rattle.settings.specs.Layout.{large}
 use Rattle.settings.specs.Entries.{differing_entry}
-use Rattle.settings.specs.Reader.{checksum_differs, is_form}
+use Rattle.settings.specs.Reader.{Checked, checksum_differs, is_form}
 use Rattle.settings_large.specs.Image.{large_size}
 use Rattle.settings_large.specs.Reader.{filler_differs, value_not_allowed, checked_in, checked_written, checked_of}
 
@@ -31,9 +30,9 @@ pub record Passed (image : List ℕ) : Type 0 where
 
 module _ (image : List ℕ) where
   unfoldable pub Good : Checked → Type 0
-  Good checked.Blank = (length image ≡ large_size) × (all_are 0xFF image ≡ true)
-  Good (checked.Written form) = Passed image
-  Good (checked.Refused refusal) = Unit
+  Good (Ok None) = (length image ≡ large_size) × (all_are 0xFF image ≡ true)
+  Good (Ok (Some form)) = Passed image
+  Good (Err refusal) = Unit
 
   pub checked_is_good : Good (checked_of image)
   unfolding Good checked_of checked_written checked_in
@@ -57,15 +56,12 @@ module _ (image : List ℕ) where
       })))))))
 
 -- what is found to be written has passed the tests
-pub written_has_passed : (image : List ℕ) (form : Form) → checked_of image ≡ checked.Written form → Passed image
+pub written_has_passed : (image : List ℕ) (form : Form) → checked_of image ≡ Ok (Some form) → Passed image
 unfolding Good
 written_has_passed image form e = subst (Good image) e (checked_is_good image)
 
-pub written_has_size : (image : List ℕ) (form : Form) → checked_of image ≡ checked.Written form → length image ≡ large_size
-written_has_size image form e = (written_has_passed image form e).size
-
 -- whoever has passed them is found to be written
-pub passes : (image : List ℕ) → Passed image → checked_of image ≡ checked.Written Two
+pub passes : (image : List ℕ) → Passed image → checked_of image ≡ Ok (Some Two)
 unfolding checked_of checked_written checked_in pick
 passes image passed =
     rw (eq-eqb (length image) large_size passed.size, passed.written, passed.checksum, passed.known, passed.entries, passed.filler, passed.value)

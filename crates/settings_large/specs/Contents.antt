@@ -1,13 +1,17 @@
 -- T-10: "settings are one such sector .., with our form 2, no form 1, in its first 1,024 bytes and 0xFF after". What an image says.
 use Rattle.std.specs.Prelude.{List, ℕ}
 use Rattle.settings.specs.declared.Form.{Form}
+use Rattle.settings.specs.declared.ImageContents.{ImageContents}
 use Rattle.settings.specs.declared.Form.TheVariants.{Two}
-use Rattle.settings.specs.declared.Kept.{Kept}
+use Rattle.settings.specs.Held.{Kept}
 use Rattle.settings.specs.Values.{no_name}
 use Rattle.settings.specs.Layout.{large}
 use Rattle.settings.specs.Bodies.{body_in, shown_in}
 use Rattle.settings.specs.Kept.{blank_kept, no_kept}
-use Rattle.settings_large.specs.declared.LargeContents.{LargeContents}
+
+-- what an image holds
+abbrev pub LargeContents : Type 0
+LargeContents = ImageContents 32
 
 abbrev pub contents_of : Form → Kept → List ℕ → LargeContents
 contents_of form settings name = record { form = form; settings = settings; name = name }

@@ -3,7 +3,7 @@ use Rattle.std.specs.Prelude.{ℕ, ◌-◌, List, ◌++◌, replicate}
 use Rattle.settings.specs.Layout.{large, image_size, checksum_at, bodies_end, table_of, pairs_of}
 use Rattle.settings.specs.Kept.{kept_bodies}
 use Rattle.settings.specs.Image.{sealed}
-use Rattle.settings_large.specs.declared.LargeContents.{LargeContents}
+use Rattle.settings_large.specs.Contents.{LargeContents}
 
 -- T-10: "settings are one such sector", of 2,048 bytes
 abbrev pub large_size : ℕ

@@ -1,6 +1,6 @@
-// What stands for a blank image, or for none.
+// What stands for a blank image.
 ghost use Rattle.std.specs.Prelude.{◌≡◌};
-ghost use Rattle.settings_large.specs.Contents.{blank_contents, no_contents};
+ghost use Rattle.settings_large.specs.Contents.{blank_contents};
 
 use crate::LargeContents;
 use settings::{Form, NAME_SIZE};
@@ -11,18 +11,6 @@ pub(crate) fn blank_contents() -> LargeContents
     ensures { result ≡ blank_contents }
 {
     let settings = settings::blank_kept();
-    LargeContents {
-        form: Form::Two,
-        settings,
-        name: [0xFF; NAME_SIZE],
-    }
-}
-
-#[tactic(auto, unfolding(settings::specs::Values::no_name))]
-pub(crate) fn no_contents() -> LargeContents
-    ensures { result ≡ no_contents }
-{
-    let settings = settings::none_kept();
     LargeContents {
         form: Form::Two,
         settings,

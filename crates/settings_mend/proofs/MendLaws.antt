@@ -1,15 +1,18 @@
 -- What is put right where it lies is the mended image; and how many bytes can have changed.
+use Rattle.std.specs.Prelude.{Result, Ok, Err, ◌==◌, cond, count_by}
+use Rattle.std.proofs.lemmas.List.Recursion.{is_count_by}
 use mathlib.Core.Path.{◌≡◌, refl, sym, ap, ◌∙◌}
-use mathlib.Core.Bool.{Bool, true, false, true≢false, not}
+use mathlib.Core.Bool.{Bool, true, false, not}
 use mathlib.Core.List.{List, [], ◌∷◌, ◌++◌, append_assoc}
-use Prim.Native.Nat.{ℕ, ◌+◌, ◌-◌, ◌/◌, ◌≤◌, ◌<◌}
+use Prim.Native.Nat.{ℕ, suc, ◌+◌, ◌-◌, ◌/◌, ◌≤◌, ◌<◌}
 use native.Mathlib.Omega.{arith}
 use borrow.Author.Tests.{eq-eqb, eqb-true, not-false}
 use borrow.Rule.Slice.PartMut.{put_mid, same_len_mid}
 use lib.Dec.{eqb}
 use lib.Bits.{bit_xor, xor_lt}
-use lib.ListN.{length, get_or, set, take, drop, replicate, length-append, length-take, length-replicate, get_or-replicate}
+use lib.ListN.{length, get_or, set, take, drop, drop_of_length-le, replicate, length-append, length-take, length-replicate, get_or-replicate}
 use lib.Seq.{drop-drop, length-take-le}
+use Rattle.octets.specs.Choice.{pick}
 use Rattle.octets.specs.Number.{part}
 use Rattle.octets.specs.Alike.{differing}
 use Rattle.octets.proofs.Parts.{length_part, part_there, from_next, parts_join, part_of_part}
@@ -22,7 +25,9 @@ use Rattle.settings.specs.Image.{filler_of, sealed, resealed}
 use Rattle.settings.proofs.WriterLaws.{form_1_table}
 use Rattle.settings_mend.specs.declared.Changes.{Changes}
 use Rattle.settings_mend.specs.declared.Examined.{Examined}
-use Rattle.settings_mend.specs.declared.Examined.TheVariants.{SizeWrong, Accepted, FormTwo, Damaged}
+use Rattle.settings_mend.specs.declared.Examined.TheVariants.{Accepted, Damaged}
+use Rattle.settings_mend.specs.declared.MendError.{MendError}
+use Rattle.settings_mend.specs.declared.MendError.TheVariants.{SizeWrong, FormTwo}
 use Rattle.settings_mend.specs.Examining.{examined_of, examined_number}
 use Rattle.settings_mend.specs.Mending.{allowed_or, mended_values, mended_bodies, mended, changed, mend_as, mend_of}
 
@@ -133,25 +138,27 @@ module _ (image : List ℕ) (size : length image ≡ 1024) where
         part_of_part 1020 4 0 4 (mended image) (omega arith),
       )
 
--- ---- the bytes that are not the filler's, counted one by one
+-- ---- the bytes that are not the filler's
 
-module _ (bytes : List ℕ) (i : ℕ) (there : i < length bytes) (fits : get_or bytes i 0 < 256) where
-  right_here : get_or (replicate {A = ℕ} (length bytes) 0xFF) i 0 ≡ 0xFF
-  right_here = get_or-replicate {A = ℕ} (length bytes) i 0xFF 0 there
+counted_so : (same : Bool) (others : ℕ) → pick same others (suc others) ≡ cond (not same) (1 + others) others
+unfolding pick
+counted_so true others = refl
+counted_so false others = omega arith
 
-  pub filler_adds : (bit_xor (get_or bytes i 0) 0xFF < 256) × ((bit_xor (get_or bytes i 0) 0xFF + 255) / 256 ≤ 1)
-  filler_adds = let small = xor_lt 8 (get_or bytes i 0) 0xFF fits (omega arith) in (small, omega (arith, small))
+-- as many as differ from a filler that is right
+pub filler_counted : (bytes : List ℕ) → differing bytes (replicate (length bytes) 0xFF) ≡ count_by (λ byte. not (byte == 0xFF)) bytes
+unfolding differing
+filler_counted =
+    is_count_by (λ bytes. differing bytes (replicate (length bytes) 0xFF)) (λ byte. not (byte == 0xFF)) refl
+    (λ byte bytes. counted_so (byte == 0xFF) (differing bytes (replicate (length bytes) 0xFF)))
 
-  pub filler_counted : (bit_xor (get_or bytes i 0) 0xFF + 255) / 256 + differing (drop (i + 1) bytes) (drop (i + 1) (replicate (length bytes) 0xFF))
-      ≡ differing (drop i bytes) (drop i (replicate (length bytes) 0xFF))
-  filler_counted =
-      ap (λ (byte : ℕ). (bit_xor (get_or bytes i 0) byte + 255) / 256 + differing (drop (i + 1) bytes) (drop (i + 1) (replicate (length bytes) 0xFF))) (sym right_here)
-      ∙ counted_here bytes (replicate (length bytes) 0xFF) i there (omega (arith, length-replicate {A = ℕ} (length bytes) 0xFF)) fits (omega (arith, right_here))
-
-pub none_left : (bytes : List ℕ) (i : ℕ) → i ≡ length bytes → differing (drop i bytes) (drop i (replicate (length bytes) 0xFF)) ≡ 0
-none_left bytes i e =
-    let size = length-replicate {A = ℕ} (length bytes) 0xFF in
-    rest_differs bytes (replicate (length bytes) 0xFF) i (omega (arith, size)) ∙ omega (arith, size)
+-- counted up to the end
+pub filler_all_counted : (bytes : List ℕ) (count i : ℕ) → i ≡ length bytes
+    → count + count_by (λ byte. not (byte == 0xFF)) (drop i bytes) ≡ count_by (λ byte. not (byte == 0xFF)) bytes
+    → count ≡ differing bytes (replicate (length bytes) 0xFF)
+filler_all_counted bytes count i end counted =
+    let left : drop i bytes ≡ [] = drop_of_length-le bytes {i = i} (omega (arith, end)) in
+    omega (arith, (rw left at counted), filler_counted bytes)
 
 -- no more bytes can have changed than both images have there
 pub few_changed : (at count : ℕ) (before after : List ℕ) → count ≤ 1024 → changed at count before after < 65536
@@ -159,35 +166,29 @@ few_changed at count before after h =
     omega (arith, at_most_all_differ (part at count before) (part at count after), length-take count (drop at before), length-take count (drop at after))
 
 -- what is found to be damaged has the size of an image
-is_damaged : Examined → Bool
-is_damaged SizeWrong = false
-is_damaged Accepted = false
-is_damaged FormTwo = false
-is_damaged Damaged = true
-
-pub damaged_has_size : (image : List ℕ) → examined_of image ≡ Damaged → length image ≡ image_size
-unfolding examined_of is_damaged
+pub damaged_has_size : (image : List ℕ) → examined_of image ≡ Ok Damaged → length image ≡ image_size
+unfolding examined_of
 damaged_has_size image =
-    by_pick (λ found. found ≡ Damaged → length image ≡ image_size) (not (eqb (length image) image_size)) _ _
-    (λ y e. absurd (true≢false (sym (ap is_damaged e))))
+    by_pick (λ found. found ≡ Ok Damaged → length image ≡ image_size) (not (eqb (length image) image_size)) _ _
+    (λ y e. cc e)
     (λ n e. eqb-true _ _ (not-false _ n))
 
 -- what an image is found to be has its number; and one with a number keeps every byte
-found_has_number : (image : List ℕ) (found : Examined) → (mend_as image found).told.number ≡ examined_number found
-found_has_number image SizeWrong = refl
-found_has_number image Accepted = refl
-found_has_number image FormTwo = refl
-found_has_number image Damaged = refl
+found_has_number : (image : List ℕ) (found : Result Examined MendError) → (mend_as image found).told.number ≡ examined_number found
+found_has_number image (Err SizeWrong) = refl
+found_has_number image (Ok Accepted) = refl
+found_has_number image (Err FormTwo) = refl
+found_has_number image (Ok Damaged) = refl
 
 pub mend_has_number : (image : List ℕ) → (mend_of image).told.number ≡ examined_number (examined_of image)
 unfolding mend_of
 mend_has_number image = found_has_number image (examined_of image)
 
-found_keeps : (image : List ℕ) (found : Examined) → ((mend_as image found).told.number ≡ 0 → ⊥) → (mend_as image found).image ≡ image
-found_keeps image SizeWrong h = refl
-found_keeps image Accepted h = refl
-found_keeps image FormTwo h = refl
-found_keeps image Damaged h = absurd (h refl)
+found_keeps : (image : List ℕ) (found : Result Examined MendError) → ((mend_as image found).told.number ≡ 0 → ⊥) → (mend_as image found).image ≡ image
+found_keeps image (Err SizeWrong) h = refl
+found_keeps image (Ok Accepted) h = refl
+found_keeps image (Err FormTwo) h = refl
+found_keeps image (Ok Damaged) h = absurd (h refl)
 
 pub refused_mend_keeps : (image : List ℕ) → ((mend_of image).told.number ≡ 0 → ⊥) → (mend_of image).image ≡ image
 unfolding mend_of

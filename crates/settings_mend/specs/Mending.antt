@@ -1,5 +1,5 @@
 -- T-11, Mend a settings image: what a damaged one becomes, and how many bytes that changes.
-use Rattle.std.specs.Prelude.{List, [], ◌∷◌, ◌++◌, ℕ, leb, get_or}
+use Rattle.std.specs.Prelude.{List, [], ◌∷◌, ◌++◌, ℕ, leb, get_or, Result, Ok, Err}
 use Rattle.octets.specs.Choice.{pick}
 use Rattle.octets.specs.Number.{part}
 use Rattle.octets.specs.Alike.{differing}
@@ -10,8 +10,8 @@ use Rattle.settings.specs.Image.{filler_of, sealed}
 use Rattle.settings_mend.specs.declared.Examined.{Examined}
 use Rattle.settings_mend.specs.declared.Examined.TheVariants as examined
 use Rattle.settings_mend.specs.declared.Changes.{Changes}
-use Rattle.settings_mend.specs.declared.MendAnswer.{MendAnswer}
-use Rattle.settings_mend.specs.declared.MendAnswer.TheVariants.{Mended, SizeWrong, FormTwo}
+use Rattle.settings_mend.specs.declared.MendError.{MendError}
+use Rattle.settings_mend.specs.declared.MendError.TheVariants.{SizeWrong, FormTwo}
 use Rattle.settings_mend.specs.Examining.{examined_of}
 
 -- ---- the mended image
@@ -66,10 +66,10 @@ pub record MendTold : Type 0 where
 abbrev pub told : ℕ → Changes → MendTold
 told number changes = record { number = number; changes = changes }
 
-abbrev pub mend_told : MendAnswer → MendTold
-mend_told (Mended changes) = told 0 changes
-mend_told SizeWrong = told 3 no_changes
-mend_told FormTwo = told 5 no_changes
+abbrev pub mend_told : Result Changes MendError → MendTold
+mend_told (Ok changes) = told 0 changes
+mend_told (Err SizeWrong) = told 3 no_changes
+mend_told (Err FormTwo) = told 5 no_changes
 
 -- all that the tool leaves: what it tells, and the image
 pub record MendLeft : Type 0 where
@@ -80,11 +80,11 @@ abbrev pub mend_left : MendTold → List ℕ → MendLeft
 mend_left told image = record { told = told; image = image }
 
 -- "An image the reader accepts, blank included, comes back unchanged with four zeros."; a refused one keeps every byte
-abbrev pub mend_as : List ℕ → Examined → MendLeft
-mend_as image examined.SizeWrong = mend_left (told 3 no_changes) image
-mend_as image examined.Accepted = mend_left (told 0 no_changes) image
-mend_as image examined.FormTwo = mend_left (told 5 no_changes) image
-mend_as image examined.Damaged = mend_left (told 0 (changes_of image (mended image))) (mended image)
+abbrev pub mend_as : List ℕ → Result Examined MendError → MendLeft
+mend_as image (Err SizeWrong) = mend_left (told 3 no_changes) image
+mend_as image (Ok examined.Accepted) = mend_left (told 0 no_changes) image
+mend_as image (Err FormTwo) = mend_left (told 5 no_changes) image
+mend_as image (Ok examined.Damaged) = mend_left (told 0 (changes_of image (mended image))) (mended image)
 
 unfoldable pub mend_of : List ℕ → MendLeft
 mend_of image = mend_as image (examined_of image)

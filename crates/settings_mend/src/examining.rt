@@ -4,7 +4,7 @@ ghost use Rattle.settings.specs.declared.Form.TheVariants.{Two};
 ghost use Rattle.settings.specs.Reader.{is_form};
 ghost use Rattle.settings_mend.specs.Examining.{examined_of};
 
-use crate::Examined;
+use crate::{Examined, MendError};
 use settings::IMAGE_SIZE;
 
 // Whether the first four bytes read form 2 and count 7.
@@ -12,25 +12,22 @@ use settings::IMAGE_SIZE;
 fn is_form_2(image: &[u8]) -> bool
     ensures { result ≡ is_form Two image.now }
 {
-    if octets::number16_at(image, 0) != 2 {
-        return false;
-    }
-    octets::number16_at(image, 2) == 7
+    octets::number16_at(image, 0) == 2 && octets::number16_at(image, 2) == 7
 }
 
 // Looks at an image, and changes no byte of it.
 #[tactic(auto, unfolding(crate::specs::Examining::examined_of, octets::specs::Choice::pick))]
-pub fn examine(image: &[u8]) -> Examined
+pub fn examine(image: &[u8]) -> Result<Examined, MendError>
     ensures { result ≡ examined_of image.now }
 {
     if image.len() != IMAGE_SIZE {
-        return Examined::SizeWrong;
+        return Err(MendError::SizeWrong);
     }
     if settings::accepts(image) {
-        return Examined::Accepted;
+        return Ok(Examined::Accepted);
     }
     if is_form_2(image) {
-        return Examined::FormTwo;
+        return Err(MendError::FormTwo);
     }
-    Examined::Damaged
+    Ok(Examined::Damaged)
 }

@@ -7,28 +7,25 @@ mod mending;
 pub use examining::examine;
 pub use mending::mend;
 
-// What an image is found to be. Only one that is damaged is changed.
-#[derive(Clone, Copy)]
+// What an image is found to be that is not refused. Only one that is damaged is changed.
+#[derive(Clone, Copy, Debug, PartialEq, Eq)]
 pub enum Examined {
-    SizeWrong,
     Accepted,
-    FormTwo,
     Damaged,
 }
 
+// Why an image is not mended.
+#[derive(Clone, Copy, Debug, PartialEq, Eq)]
+pub enum MendError {
+    SizeWrong,
+    FormTwo,
+}
+
 // How many bytes were changed, by where they stand.
-#[derive(Clone, Copy)]
+#[derive(Clone, Copy, Debug, Default, PartialEq, Eq)]
 pub struct Changes {
     pub table: u16,
     pub filler: u16,
     pub values: u16,
     pub checksum: u16,
-}
-
-// What the tool answers.
-#[derive(Clone, Copy)]
-pub enum MendAnswer {
-    Mended(Changes),
-    SizeWrong,
-    FormTwo,
 }

@@ -4,7 +4,7 @@ ghost use Rattle.octets.specs.Number.{part};
 ghost use Rattle.octets.specs.Alike.{differing};
 ghost use Rattle.settings_mend.specs.Mending.{allowed_or, mended_values, mended, changed, changes_of, mend_left, mend_told, mend_of};
 
-use crate::{Changes, Examined, MendAnswer, examining};
+use crate::{Changes, Examined, MendError, examining};
 use settings::{CHECKSUM_AT, FIELDS_SIZE, IMAGE_SIZE};
 
 // Where the parts of an image of form 1 stand: its bodies, body 3 among them, its filler, and its checksum.
@@ -50,21 +50,19 @@ fn put_right(image: &mut [u8])
     settings::reseal(image);
 }
 
-// How many bytes are not the filler's: so many places differ from a filler that is right.
-#[tactic(auto, using(crate::proofs::MendLaws::filler_adds, crate::proofs::MendLaws::filler_counted, crate::proofs::MendLaws::none_left))]
+// How many bytes are not the filler's: so many places differ from a filler that is right. By a sum and not by `filter` and `count`, which looks
+// at one byte at a time.
 fn not_filler(bytes: &[u8]) -> usize
     ensures { result ≡ differing bytes.now (replicate (length bytes.now) 0xFF) }
 {
     let mut count = 0;
-    let mut i = 0;
-    while i < bytes.len() {
-        // 0 for a byte 0xFF and else 1
-        count += ((bytes[i] ^ 0xFF) as usize + 255) / 256;
-        i += 1;
+    for byte in bytes {
+        count += usize::from(*byte != 0xFF);
     }
     count
 }
 
+// A slice and its length here, and where an image is put right: whoever mends has the image as a `&mut`, and an array of it would want the size tested twice.
 fn filler_changed(image: &[u8]) -> u16
     requires { length image.now ≡ 1024 }
     ensures { result ≡ differing (part 126 894 image.now) (replicate 894 0xFF) }
@@ -89,9 +87,7 @@ fn front_of(image: &[u8]) -> [u8; 126]
     requires { length image.now ≡ 1024 }
     ensures { result ≡ part 0 126 image.now }
 {
-    let mut front = [0u8; FILLER_AT];
-    octets::put(&mut front, 0, octets::part_of(image, 0, FILLER_AT));
-    front
+    octets::array_at(image, 0)
 }
 
 // The checksum as it stands.
@@ -99,9 +95,7 @@ fn sum_of(image: &[u8]) -> [u8; 4]
     requires { length image.now ≡ 1024 }
     ensures { result ≡ part 1020 4 image.now }
 {
-    let mut sum = [0u8; SUM_SIZE];
-    octets::put(&mut sum, 0, octets::part_of(image, CHECKSUM_AT, SUM_SIZE));
-    sum
+    octets::array_at(image, CHECKSUM_AT)
 }
 
 // What was changed of an image, beside its filler.
@@ -136,19 +130,11 @@ fn mend_damaged(image: &mut [u8]) -> Changes
 
 // Mends an image where it is damaged, or refuses. One that is refused or accepted keeps every byte.
 #[tactic(auto, using(crate::proofs::MendLaws::damaged_has_size), unfolding(crate::specs::Mending::mend_of))]
-pub fn mend(image: &mut [u8]) -> MendAnswer
+pub fn mend(image: &mut [u8]) -> Result<Changes, MendError>
     ensures { mend_left (mend_told result) image.new ≡ mend_of image.old }
 {
-    let examined = examining::examine(image);
-    match examined {
-        Examined::SizeWrong => MendAnswer::SizeWrong,
-        Examined::Accepted => MendAnswer::Mended(Changes {
-            table: 0,
-            filler: 0,
-            values: 0,
-            checksum: 0,
-        }),
-        Examined::FormTwo => MendAnswer::FormTwo,
-        Examined::Damaged => MendAnswer::Mended(mend_damaged(image)),
-    }
+    Ok(match examining::examine(image)? {
+        Examined::Accepted => Changes::default(),
+        Examined::Damaged => mend_damaged(image),
+    })
 }

@@ -1,81 +1,55 @@
 // What a line tells of a call, in the order of its columns.
-ghost use Rattle.std.specs.Prelude.{◌≤◌};
-
-use crate::text;
-use session::CallAnswer;
+use program_io::Hex;
+use session::Called;
 use session_state::{Phase, Standing};
 use std::io;
 
-// The place of its name among the names of phases.
-fn place_of(phase: Phase) -> u8 {
-    match phase {
-        Phase::Detect => 0,
-        Phase::Command { unlocked, sleep: _ } => {
-            if unlocked {
-                return 2;
-            }
-            1
-        }
-        Phase::Standby => 3,
-        Phase::Ended => 4,
-        Phase::Disabled => 5,
-    }
-}
+// So many bytes of a reply are shown; Info's has no more.
+const MOST_SHOWN: usize = 33;
 
-fn sleep_of(phase: Phase) -> u32 {
+fn phase_name(phase: Phase) -> &'static str {
     match phase {
-        Phase::Detect => 0,
-        Phase::Command { unlocked: _, sleep } => sleep,
-        Phase::Standby => 0,
-        Phase::Ended => 0,
-        Phase::Disabled => 0,
+        Phase::Detect => "detect",
+        Phase::Command {
+            unlocked: false,
+            ..
+        } => "locked",
+        Phase::Command { unlocked: true, .. } => "unlocked",
+        Phase::Standby => "standby",
+        Phase::Ended => "ended",
+        Phase::Disabled => "disabled",
     }
 }
 
 pub(crate) fn show_standing(rt: &impl Print, standing: Standing) -> io::Result<()> {
-    let phase = standing.phase;
-    let names: &[u8] = b"  detect    locked    unlocked  standby   ended     disabled";
-    text::say(
-        rt,
-        octets::part_of(names, 10 * (place_of(phase) as usize), 10),
-    )?;
-    text::say_number(rt, sleep_of(phase) as u64)?;
-    text::say_number(rt, standing.idle as u64)?;
-    text::say_number(rt, standing.wrong as u64)?;
-    text::say_number(rt, standing.tries as u64)?;
-    text::say_number(rt, standing.rate as u64)
-}
-
-// 1 for a byte 0xFF, else 0.
-fn one_if_erased(byte: u8) -> u64
-    ensures { result ≤ 1 }
-{
-    if byte == 0xFF { 1 } else { 0 }
+    let name = phase_name(standing.phase);
+    let sleep = standing.phase.sleep();
+    let Standing {
+        idle,
+        wrong,
+        tries,
+        rate,
+        ..
+    } = standing;
+    print!(rt; "  {name:<8}{sleep:>6}{idle:>6}{wrong:>6}{tries:>6}{rate:>6}")
 }
 
 // How many bytes are 0xFF.
-fn erased(bytes: &[u8]) -> u64 {
-    let mut count = 0;
-    for i in 0..bytes.len() {
-        count += one_if_erased(bytes[i]);
-    }
-    count
+fn erased(bytes: &[u8]) -> usize {
+    bytes.iter().filter(|&&byte| byte == 0xFF).count()
 }
 
 pub(crate) fn show_flash(rt: &impl Print, main: &[u8], image: &[u8]) -> io::Result<()> {
-    text::say_number(rt, erased(main))?;
-    text::say_number(rt, erased(image))
+    print!(rt; "{:>6}{:>6}", erased(main), erased(image))
 }
 
-// The reply's size and its first bytes; no call of a script is refused.
-pub(crate) fn show_answer(rt: &impl Print, answer: CallAnswer, area: &[u8]) -> io::Result<()> {
-    let CallAnswer::Done { size, burn } = answer else {
-        return text::say(rt, b" refused");
+// The reply's size and its first bytes; no call of the stored rows is refused.
+pub(crate) fn show_answer(rt: &impl Print, called: Option<Called>, area: &[u8]) -> io::Result<()> {
+    let Some(called) = called else {
+        return rt.println(" refused");
     };
-    text::say_number(rt, size as u64)?;
-    text::say_bytes(rt, octets::part_of(area, 0, size))?;
-    if burn {
-        text::say(rt, b", burns its fuse")?;
-    }
-    Ok(())
+    let size = called.size;
+    let reply = Hex(octets::part_of(area, 0, size.min(MOST_SHOWN)));
+    let fuse = if called.burn { ", burns its fuse" } else { "" };
+    println!(rt; "{size:>6}{reply}{fuse}")
 }

@@ -7,7 +7,6 @@ mod lines;
 mod packets;
 mod rows;
 mod runs;
-mod text;
 
 use std::io;
 
@@ -17,12 +16,14 @@ const INPUT_LIMIT: usize = 32768;
 fn main(rt: HostRuntime) -> io::Result<()> {
     let mut input = [0u8; INPUT_LIMIT];
     let size = program_io::read_full(&mut rt.stdin(), &mut input)?;
-    text::say(
-        &rt,
-        b"A board: reset mode, alert, readout (2), settings protected, sectors protected, version pointer (4); none where it is blank.
-A call: the core, or with = the packet as it stands, its last byte repeated up to the count; and the wait.
-After it: how the session stands, how many bytes of MAIN and of the settings are FF, the reply's size and its first 33 bytes.",
+    rt.println(
+        "A board: reset mode, alert, readout (2), settings protected, sectors protected, version pointer (4); none where it is blank.",
     )?;
-    runs::run(&rt, &input[..size])?;
-    text::say(&rt, b"\n")
+    rt.println(
+        "A call: the core, or with = the packet as it stands, its last byte repeated up to the count; and the wait.",
+    )?;
+    rt.println(
+        "After it: how the session stands, how many bytes of MAIN and of the settings are FF, the reply's size and its first 33 bytes.",
+    )?;
+    runs::run(&rt, &input[..size])
 }

@@ -1,23 +1,30 @@
 // The packet of a row.
-use crate::rows;
-use line::{CORE_AT, LENGTH_AT, PACKET_FRAME, codes};
+ghost use Rattle.std.specs.Prelude.{◌≤◌};
+
+use crate::rows::{self, Row};
+use line::{CORE_AT, PACKET_FRAME, codes};
+
+// The longest whole packet, of L 1,722, has as many bytes as the longest reply.
+pub(crate) type Packet = [u8; codes::REPLY_LIMIT];
 
 // Puts header, length and checksum around a core.
-fn frame(packet: &mut [u8], count: u32) {
-    let sum = checksum::checksum_of(octets::part_of(packet, CORE_AT, count as usize));
-    octets::put(packet, 0, &[codes::COMMAND_HEADER]);
-    octets::put_number(packet, LENGTH_AT, 2, count);
-    octets::put_number(packet, CORE_AT + count as usize, 4, sum);
+fn frame(packet: &mut Packet, count: usize)
+    requires { count ≤ 1000000 }
+{
+    let sum = checksum::checksum_of(octets::part_of(packet, CORE_AT, count));
+    let [low, high, ..] = count.to_le_bytes();
+    octets::put(packet, 0, &[codes::COMMAND_HEADER, low, high]);
+    octets::put(packet, CORE_AT + count, &sum.to_le_bytes());
 }
 
-// Stores the packet of a row, and answers its size.
-pub(crate) fn put_packet(row: &[u8], packet: &mut [u8]) -> usize {
-    let count = rows::count_in(row);
+// Stores the packet of a row, and answers its size, which may be more than there is room for.
+pub(crate) fn put_packet(row: &Row, packet: &mut Packet) -> usize {
+    let count = rows::count_in(row) as usize;
     if rows::is_packet(row) {
-        rows::put_bytes(row, count, packet, 0);
-        return count as usize;
+        rows::put_bytes(row, packet);
+        return count;
     }
-    rows::put_bytes(row, count, packet, CORE_AT as u8);
+    rows::put_bytes(row, &mut packet[CORE_AT..]);
     frame(packet, count);
-    count as usize + PACKET_FRAME
+    count + PACKET_FRAME
 }

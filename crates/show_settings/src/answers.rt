@@ -1,41 +1,61 @@
 // The answers of the reader, the writer and the moves, told by the numbers that the documents give them.
-use crate::text;
 use c_records::REFUSAL_UNIT;
-use settings::{MoveAnswer, ReadAnswer, WriteAnswer};
-use std::io;
+use settings::{MoveError, Refusal, WriteError};
+use std::{fmt, io};
 
-// The number is in the top byte, and the entry that goes with 6 below it.
-fn say_refused(rt: &impl Print, refusal: u64) -> io::Result<()> {
-    text::say(rt, b" refused")?;
-    text::say_number(rt, refusal / REFUSAL_UNIT)?;
-    let entry = refusal % REFUSAL_UNIT;
-    if entry != 0 {
-        text::say(rt, b" at entry")?;
-        text::say_number(rt, entry)?;
-    }
-    Ok(())
-}
+// Why something is refused, as the number that C is answered with: the refusal in the top byte, and the entry that goes with 6 below it.
+#[derive(Clone, Copy, Debug, PartialEq, Eq)]
+pub(crate) struct Refused(u64);
 
-pub(crate) fn say_reading(rt: &impl Print, answer: ReadAnswer) -> io::Result<()> {
-    match answer {
-        ReadAnswer::Accepted => text::say(rt, b" accepted"),
-        ReadAnswer::Refused(refusal) => say_refused(rt, c_records::of_refusal(refusal)),
+impl From<Refusal> for Refused {
+    fn from(refusal: Refusal) -> Refused {
+        Refused(c_records::of_refusal(refusal))
     }
 }
 
-pub(crate) fn say_writing(rt: &impl Print, answer: WriteAnswer) -> io::Result<()> {
-    match answer {
-        WriteAnswer::Written => text::say(rt, b" accepted"),
-        WriteAnswer::SizeWrong => say_refused(rt, c_records::SETTINGS_SIZE_WRONG),
-        WriteAnswer::ValueNotAllowed => say_refused(rt, c_records::VALUE_NOT_ALLOWED),
-        WriteAnswer::NameNotEmpty => say_refused(rt, c_records::NAME_NOT_EMPTY),
+impl From<WriteError> for Refused {
+    fn from(error: WriteError) -> Refused {
+        Refused(match error {
+            WriteError::SizeWrong => c_records::SETTINGS_SIZE_WRONG,
+            WriteError::ValueNotAllowed => c_records::VALUE_NOT_ALLOWED,
+            WriteError::NameNotEmpty => c_records::NAME_NOT_EMPTY,
+        })
     }
 }
 
-pub(crate) fn say_moving(rt: &impl Print, answer: MoveAnswer) -> io::Result<()> {
+impl From<MoveError> for Refused {
+    fn from(error: MoveError) -> Refused {
+        match error {
+            MoveError::Image(refusal) => Refused::from(refusal),
+            MoveError::NameNotEmpty => Refused(c_records::NAME_NOT_EMPTY),
+        }
+    }
+}
+
+impl fmt::Display for Refused {
+    fn fmt<W: fmt::Write>(&self, f: &mut fmt::Formatter<W>) -> fmt::Result {
+        let refusal = self.0 / REFUSAL_UNIT;
+        let entry = self.0 % REFUSAL_UNIT;
+        write!(f, "refused {refusal}")?;
+        if entry != 0 {
+            write!(f, " at entry {entry}")?;
+        }
+        Ok(())
+    }
+}
+
+// The line of an answer, and what is told beside it.
+pub(crate) fn show_answer<T: Drop, E: Into<Refused>>(
+    rt: &impl Print,
+    name: &str,
+    answer: Result<T, E>,
+    beside: &str,
+) -> io::Result<()> {
     match answer {
-        MoveAnswer::Moved => text::say(rt, b" accepted"),
-        MoveAnswer::Refused(refusal) => say_refused(rt, c_records::of_refusal(refusal)),
-        MoveAnswer::NameNotEmpty => say_refused(rt, c_records::NAME_NOT_EMPTY),
+        Ok(_) => println!(rt; "{name:>21}: accepted{beside}"),
+        Err(error) => {
+            let refused: Refused = error.into();
+            println!(rt; "{name:>21}: {refused}{beside}")
+        }
     }
 }

@@ -8,33 +8,33 @@ mod moves;
 mod refusals;
 mod text;
 
-use settings::Contents;
+use answers::show_answer;
+use settings::{Contents, IMAGE_SIZE};
 use std::io;
 
-fn show_blank(rt: &impl Print) -> io::Result<Contents> {
-    let reading = settings::read(&[0xFF; 1024]);
-    let answer = reading.answer;
-    text::say(rt, b"          blank image:")?;
-    answers::say_reading(rt, answer)?;
-    contents::show_contents(rt, reading.contents)?;
-    Ok(reading.contents)
-}
-
-fn show_written(rt: &impl Print, contents: Contents) -> io::Result<[u8; 1024]> {
-    let mut image = [0u8; 1024];
-    let answer = settings::write(contents, &mut image);
-    text::say(rt, b"\n its contents written:")?;
-    answers::say_writing(rt, answer)?;
+fn show_written(rt: &impl Print, contents: Contents) -> io::Result<[u8; IMAGE_SIZE]> {
+    let mut image = [0u8; IMAGE_SIZE];
+    show_answer(
+        rt,
+        "its contents written",
+        settings::write(contents, &mut image),
+        "",
+    )?;
     contents::show_image(rt, &image)?;
     Ok(image)
 }
 
 fn main(rt: HostRuntime) -> io::Result<()> {
-    let blank = show_blank(&rt)?;
+    let reading = settings::read(&[0xFF; IMAGE_SIZE]);
+    show_answer(&rt, "blank image", reading, "")?;
+    // a blank image is accepted
+    let Ok(blank) = reading else {
+        return Ok(());
+    };
+    contents::show_contents(&rt, blank)?;
     let image = show_written(&rt, blank)?;
     refusals::show_reader(&rt, &image)?;
     refusals::show_writer(&rt, blank)?;
     moves::show_forms(&rt, &image)?;
-    moves::show_name(&rt, blank)?;
-    text::say(&rt, b"\n")
+    moves::show_name(&rt, blank)
 }

@@ -1,27 +1,31 @@
 // Printed frames, made whole by their core length, and whether they check.
+use arrayvec::{ArrayVec, CapacityError};
 use line::{CORE_AT, FIRST_AT, LENGTH_AT, PACKET_FRAME, codes};
+
+// No packet of the documents has more bytes.
+pub(crate) const MOST: usize = 64;
 
 // How many bytes there should be. The core length decides: a frame has L + 7. Where nothing is printed from its place on, there is
 // no frame.
 fn whole_size(printed: &[u8], at: u8) -> usize {
-    let first = at as usize;
+    let first = usize::from(at);
     if printed.len() <= first {
         return printed.len();
     }
-    let length = octets::number16_at(printed, first + LENGTH_AT) as usize;
-    first + length + PACKET_FRAME
+    let length = octets::number16_at(printed, first + LENGTH_AT);
+    first + usize::from(length) + PACKET_FRAME
 }
 
-// Writes what is printed, with the frame that begins at a place made whole, and answers the size. For bytes that are missing the
-// byte after the frame's code is repeated.
-pub(crate) fn put_whole(printed: &[u8], at: u8, whole: &mut [u8]) -> usize {
-    let size = whole_size(printed, at);
-    let first = at as usize + FIRST_AT;
-    let rest = octets::part_of(printed, first, printed.len());
-    octets::fill(whole, octets::byte_at(printed, first));
-    octets::put(whole, 0, octets::part_of(printed, 0, first));
-    octets::put(whole, octets::room(size, rest.len()), rest);
-    size
+// What is printed, with the frame that begins at a place made whole. For bytes that are missing the byte after the frame's code is repeated.
+pub(crate) fn whole(printed: &[u8], at: u8) -> Result<ArrayVec<u8, MOST>, CapacityError> {
+    let first = usize::from(at) + FIRST_AT;
+    let repeated = octets::byte_at(printed, first);
+    let missing = whole_size(printed, at).saturating_sub(printed.len());
+    let mut bytes = ArrayVec::new();
+    bytes.try_extend_from_slice(octets::part_of(printed, 0, first))?;
+    bytes.try_extend_from_slice(octets::part_of(&[repeated; MOST], 0, missing))?;
+    bytes.try_extend_from_slice(octets::part_of(printed, first, printed.len()))?;
+    Ok(bytes)
 }
 
 // Whether a reply frame has the length that it tells, and the checksum of its core.
@@ -29,7 +33,7 @@ pub(crate) fn checks(frame: &[u8]) -> bool {
     if octets::byte_at(frame, 0) != codes::REPLY_HEADER {
         return false;
     }
-    let length = octets::number16_at(frame, LENGTH_AT) as usize;
+    let length = usize::from(octets::number16_at(frame, LENGTH_AT));
     if frame.len() != length + PACKET_FRAME {
         return false;
     }

@@ -5,21 +5,16 @@
 mod boards;
 mod documents;
 mod frames;
-mod listing;
 mod pairs;
-mod text;
 
-use boards::Board;
-use std::io;
+use anyhow::Result;
+use documents::{FROM_000, FROM_004};
+use parts::{Am13e230x, Mspm0};
 
-fn main(rt: HostRuntime) -> io::Result<()> {
-    text::say(
-        &rt,
-        b"Bytes that are printed, of those that the core length asks for:",
-    )?;
-    listing::show(&rt, Board::Mspm0, &documents::FROM_004)?;
-    listing::show(&rt, Board::Mspm0, &documents::FROM_000)?;
-    text::say(&rt, b"\n\nOn a board of the AM13E230x:")?;
-    listing::show(&rt, Board::Am13e230x, &documents::FROM_000)?;
-    text::say(&rt, b"\n")
+fn main(rt: HostRuntime) -> Result<()> {
+    rt.println("Bytes that are printed, of those that the core length asks for:")?;
+    pairs::show_all(&rt, Mspm0::part(), &FROM_004)?;
+    pairs::show_all(&rt, Mspm0::part(), &FROM_000)?;
+    rt.println("\nOn a board of the AM13E230x:")?;
+    pairs::show_all(&rt, Am13e230x::part(), &FROM_000)
 }

@@ -1,32 +1,30 @@
 -- 01, Numbers of refused calls: a number, and what goes with it, gives the answer back. So the numbers tell every two answers apart.
+use Rattle.std.specs.Prelude.{Option, Some, None, Result, Ok, Err}
 use mathlib.Core.Path.{◌≡◌, refl, ap, ◌∙◌}
 use Prim.Native.Nat.{ℕ}
 use lib.Dec.{eqb}
 use Rattle.octets.specs.Choice.{pick}
 use Rattle.settings.specs.declared.Refusal.{Refusal}
 use Rattle.settings.specs.declared.Refusal.TheVariants as refusal
-use Rattle.settings.specs.declared.ReadAnswer.{ReadAnswer}
-use Rattle.settings.specs.declared.ReadAnswer.TheVariants as read
-use Rattle.settings.specs.declared.WriteAnswer.{WriteAnswer}
-use Rattle.settings.specs.declared.WriteAnswer.TheVariants as write
-use Rattle.settings.specs.declared.MoveAnswer.{MoveAnswer}
-use Rattle.settings.specs.declared.MoveAnswer.TheVariants as move
-use Rattle.settings.specs.Answers.{Numbered, refusal_numbered, read_numbered, write_number, move_numbered}
+use Rattle.settings.specs.declared.WriteError.{WriteError}
+use Rattle.settings.specs.declared.WriteError.TheVariants as write
+use Rattle.settings.specs.declared.MoveError.{MoveError}
+use Rattle.settings.specs.declared.MoveError.TheVariants as move
+use Rattle.settings.specs.Answers.{Numbered, refusal_numbered, write_number, move_numbered}
 use Rattle.settings.proofs.ReaderLaws.{refuses}
-use Rattle.settings_large.specs.declared.LargeWriteAnswer.{LargeWriteAnswer}
-use Rattle.settings_large.specs.declared.LargeWriteAnswer.TheVariants as large
+use Rattle.settings_large.specs.declared.LargeWriteError.{LargeWriteError}
+use Rattle.settings_large.specs.declared.LargeWriteError.TheVariants as large
 use Rattle.settings_large.specs.Writer as large_writer
-use Rattle.settings_mend.specs.declared.MendAnswer.{MendAnswer}
-use Rattle.settings_mend.specs.declared.MendAnswer.TheVariants as mend
+use Rattle.settings_mend.specs.declared.Changes.{Changes}
+use Rattle.settings_mend.specs.declared.MendError.{MendError}
+use Rattle.settings_mend.specs.declared.MendError.TheVariants as mend
 use Rattle.settings_mend.specs.Mending.{MendTold, mend_told}
-use Rattle.session.specs.declared.StartAnswer.{StartAnswer}
-use Rattle.session.specs.declared.StartAnswer.TheVariants as start
-use Rattle.session.specs.declared.CallAnswer.{CallAnswer}
-use Rattle.session.specs.declared.CallAnswer.TheVariants as call
+use Rattle.session.specs.declared.StartError.{StartError}
+use Rattle.session.specs.declared.StartError.TheVariants as start
+use Rattle.session.specs.declared.CallError.{CallError}
+use Rattle.session.specs.declared.CallError.TheVariants as call
 use Rattle.session.specs.StartAnswers.{start_numbered}
-use Rattle.session.specs.CallAnswers.{CallTold, call_numbered}
-use Rattle.runner_text.specs.declared.Script.{Script}
-use Rattle.runner_text.specs.declared.Script.TheVariants.{Good, Bad}
+use Rattle.session.specs.CallAnswers.{call_numbered}
 use Rattle.runner_text.specs.Form.{Told, script_told}
 
 -- ---- the settings reader
@@ -49,46 +47,46 @@ refused_back (refusal.EntryDiffers entry) = refl
 refused_back refusal.FillerDiffers = refl
 refused_back refusal.ValueNotAllowed = refl
 
-unfoldable pub read_by : Numbered → ReadAnswer
-read_by told = pick (eqb told.number 0) read.Accepted (read.Refused (refused_by told))
+-- beside a value, which a refusal has not
+unfoldable pub read_by : {A : Type 0} → Numbered → A → Result A Refusal
+read_by told value = pick (eqb told.number 0) (Ok value) (Err (refused_by told))
 
-pub read_back : (answer : ReadAnswer) → read_by (read_numbered answer) ≡ answer
+pub read_back : {A : Type 0} (value : A) (why : Refusal) → read_by (refusal_numbered why) value ≡ Err why
 unfolding read_by pick
-read_back read.Accepted = refl
-read_back (read.Refused why) = rw (refuses why, refused_back why)
+read_back value why = rw (refuses why, refused_back why)
 
 -- ---- the settings writer
 
-unfoldable pub written_by : ℕ → WriteAnswer
+unfoldable pub written_by : ℕ → Result Unit WriteError
 written_by number =
-    pick (eqb number 3) write.SizeWrong (pick (eqb number 8) write.ValueNotAllowed (pick (eqb number 41) write.NameNotEmpty write.Written))
+    pick (eqb number 3) (Err write.SizeWrong) (pick (eqb number 8) (Err write.ValueNotAllowed) (pick (eqb number 41) (Err write.NameNotEmpty) (Ok tt)))
 
-pub written_back : (answer : WriteAnswer) → written_by (write_number answer) ≡ answer
+pub written_back : (written : Result Unit WriteError) → written_by (write_number written) ≡ written
 unfolding written_by pick
-written_back write.Written = refl
-written_back write.SizeWrong = refl
-written_back write.ValueNotAllowed = refl
-written_back write.NameNotEmpty = refl
+written_back (Ok done) = refl
+written_back (Err write.SizeWrong) = refl
+written_back (Err write.ValueNotAllowed) = refl
+written_back (Err write.NameNotEmpty) = refl
 
 -- that of the larger part
-unfoldable pub large_written_by : ℕ → LargeWriteAnswer
+unfoldable pub large_written_by : ℕ → Result Unit LargeWriteError
 large_written_by number =
-    pick (eqb number 3) large.SizeWrong (pick (eqb number 5) large.FormUnknown (pick (eqb number 8) large.ValueNotAllowed large.Written))
+    pick (eqb number 3) (Err large.SizeWrong) (pick (eqb number 5) (Err large.FormUnknown) (pick (eqb number 8) (Err large.ValueNotAllowed) (Ok tt)))
 
-pub large_written_back : (answer : LargeWriteAnswer) → large_written_by (large_writer.write_number answer) ≡ answer
+pub large_written_back : (written : Result Unit LargeWriteError) → large_written_by (large_writer.write_number written) ≡ written
 unfolding large_written_by pick
-large_written_back large.Written = refl
-large_written_back large.SizeWrong = refl
-large_written_back large.FormUnknown = refl
-large_written_back large.ValueNotAllowed = refl
+large_written_back (Ok done) = refl
+large_written_back (Err large.SizeWrong) = refl
+large_written_back (Err large.FormUnknown) = refl
+large_written_back (Err large.ValueNotAllowed) = refl
 
 -- ---- the moves
 
-unfoldable pub moved_by : Numbered → MoveAnswer
-moved_by told = pick (eqb told.number 0) move.Moved (pick (eqb told.number 41) move.NameNotEmpty (move.Refused (refused_by told)))
+unfoldable pub moved_by : Numbered → Result Unit MoveError
+moved_by told = pick (eqb told.number 0) (Ok tt) (pick (eqb told.number 41) (Err move.NameNotEmpty) (Err (move.Image (refused_by told))))
 
 -- a refused image has none of the other numbers
-move_refused_back : (why : Refusal) → moved_by (refusal_numbered why) ≡ move.Refused (refused_by (refusal_numbered why))
+move_refused_back : (why : Refusal) → moved_by (refusal_numbered why) ≡ Err (move.Image (refused_by (refusal_numbered why)))
 unfolding moved_by pick
 move_refused_back refusal.SizeWrong = refl
 move_refused_back refusal.ChecksumDiffers = refl
@@ -97,73 +95,71 @@ move_refused_back (refusal.EntryDiffers entry) = refl
 move_refused_back refusal.FillerDiffers = refl
 move_refused_back refusal.ValueNotAllowed = refl
 
-pub moved_back : (answer : MoveAnswer) → moved_by (move_numbered answer) ≡ answer
+pub moved_back : (moved : Result Unit MoveError) → moved_by (move_numbered moved) ≡ moved
 unfolding moved_by pick
-moved_back move.Moved = refl
-moved_back (move.Refused why) = move_refused_back why ∙ ap move.Refused (refused_back why)
-moved_back move.NameNotEmpty = refl
+moved_back (Ok done) = refl
+moved_back (Err (move.Image why)) = move_refused_back why ∙ ap (λ why. Err (move.Image why)) (refused_back why)
+moved_back (Err move.NameNotEmpty) = refl
 
 -- ---- mending
 
-unfoldable pub mended_by : MendTold → MendAnswer
-mended_by told = pick (eqb told.number 3) mend.SizeWrong (pick (eqb told.number 5) mend.FormTwo (mend.Mended told.changes))
+unfoldable pub mended_by : MendTold → Result Changes MendError
+mended_by told = pick (eqb told.number 3) (Err mend.SizeWrong) (pick (eqb told.number 5) (Err mend.FormTwo) (Ok told.changes))
 
-pub mended_back : (answer : MendAnswer) → mended_by (mend_told answer) ≡ answer
+pub mended_back : (mended : Result Changes MendError) → mended_by (mend_told mended) ≡ mended
 unfolding mended_by pick
-mended_back (mend.Mended changes) = refl
-mended_back mend.SizeWrong = refl
-mended_back mend.FormTwo = refl
+mended_back (Ok changes) = refl
+mended_back (Err mend.SizeWrong) = refl
+mended_back (Err mend.FormTwo) = refl
 
 -- ---- start
 
-unfoldable pub started_by : Numbered → StartAnswer
-started_by told =
-    pick (eqb told.number 0) start.Started
-    (pick (eqb told.number 1) start.FuseSet
-    (pick (eqb told.number 2) start.MainSizeWrong
-    (pick (eqb told.number 11) start.WindowSizeWrong
-    (start.ImageRefused (refused_by told)))))
+unfoldable pub started_by : {A : Type 0} → Numbered → A → Result A StartError
+started_by told value =
+    pick (eqb told.number 0) (Ok value)
+    (pick (eqb told.number 1) (Err start.FuseSet)
+    (pick (eqb told.number 2) (Err start.MainSizeWrong)
+    (pick (eqb told.number 11) (Err start.WindowSizeWrong)
+    (Err (start.Image (refused_by told))))))
 
 -- a refused image has none of the numbers before 3, and not 11
-image_refused_back : (why : Refusal) → started_by (refusal_numbered why) ≡ start.ImageRefused (refused_by (refusal_numbered why))
+image_refused_back : {A : Type 0} (value : A) (why : Refusal) → started_by (refusal_numbered why) value ≡ Err (start.Image (refused_by (refusal_numbered why)))
 unfolding started_by pick
-image_refused_back refusal.SizeWrong = refl
-image_refused_back refusal.ChecksumDiffers = refl
-image_refused_back refusal.FormUnknown = refl
-image_refused_back (refusal.EntryDiffers entry) = refl
-image_refused_back refusal.FillerDiffers = refl
-image_refused_back refusal.ValueNotAllowed = refl
+image_refused_back value refusal.SizeWrong = refl
+image_refused_back value refusal.ChecksumDiffers = refl
+image_refused_back value refusal.FormUnknown = refl
+image_refused_back value (refusal.EntryDiffers entry) = refl
+image_refused_back value refusal.FillerDiffers = refl
+image_refused_back value refusal.ValueNotAllowed = refl
 
-pub started_back : (answer : StartAnswer) → started_by (start_numbered answer) ≡ answer
+pub started_back : {A : Type 0} (value : A) (error : StartError) → started_by (start_numbered error) value ≡ Err error
 unfolding started_by pick
-started_back start.Started = refl
-started_back start.FuseSet = refl
-started_back start.MainSizeWrong = refl
-started_back start.WindowSizeWrong = refl
-started_back (start.ImageRefused why) = image_refused_back why ∙ ap start.ImageRefused (refused_back why)
+started_back value start.FuseSet = refl
+started_back value start.MainSizeWrong = refl
+started_back value start.WindowSizeWrong = refl
+started_back value (start.Image why) = image_refused_back value why ∙ ap (λ why. Err (start.Image why)) (refused_back why)
 
 -- ---- a call
 
-unfoldable pub called_by : CallTold → CallAnswer
-called_by told =
-    pick (eqb told.number 9) call.ReplyAreaTooSmall
-    (pick (eqb told.number 11) call.WindowSizeWrong
-    (pick (eqb told.number 10) call.RecordNotValid
-    (call.Done told.size told.burn)))
+unfoldable pub called_by : {A : Type 0} → ℕ → A → Result A CallError
+called_by number value =
+    pick (eqb number 9) (Err call.ReplyAreaTooSmall)
+    (pick (eqb number 11) (Err call.WindowSizeWrong)
+    (pick (eqb number 10) (Err call.RecordNotValid)
+    (Ok value)))
 
-pub called_back : (answer : CallAnswer) → called_by (call_numbered answer) ≡ answer
+pub called_back : {A : Type 0} (value : A) (error : CallError) → called_by (call_numbered error).number value ≡ Err error
 unfolding called_by pick
-called_back (call.Done size burn) = refl
-called_back call.ReplyAreaTooSmall = refl
-called_back call.WindowSizeWrong = refl
-called_back call.RecordNotValid = refl
+called_back value call.ReplyAreaTooSmall = refl
+called_back value call.WindowSizeWrong = refl
+called_back value call.RecordNotValid = refl
 
 -- ---- script::read_script
 
-pub script_by : Told → Script
-script_by told = pick told.good (Good told.count) Bad
+pub script_by : Told → Option ℕ
+script_by told = pick told.good (Some told.count) None
 
-pub script_back : (script : Script) → script_by (script_told script) ≡ script
+pub script_back : (script : Option ℕ) → script_by (script_told script) ≡ script
 unfolding script_by pick
-script_back (Good count) = refl
-script_back Bad = refl
+script_back (Some count) = refl
+script_back None = refl

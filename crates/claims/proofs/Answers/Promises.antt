@@ -1,8 +1,11 @@
 -- Each public function of each crate: its promise has one answer. The promise stands here as the function's contract has it.
 -- Where areas are lent to be written, an answer is what is returned, then what is left in each area, in the order of the parameters.
-use Rattle.std.specs.Prelude.{◌≡◌, refl, Bool, List, [], ℕ, ◌-◌, ◌/◌, min, length, get_or, replicate}
-use Rattle.std.proofs.Common.{ap}
+use Rattle.std.specs.Prelude.{◌≡◌, refl, Bool, List, [], ℕ, ◌-◌, ◌/◌, min, length, get_or, replicate, Result, Ok, Err}
+use Rattle.std.proofs.Common.{ap, sym, ◌∙◌}
+use native.Mathlib.Omega.{arith}
+use mathlib.Core.Bool.{true≢false}
 use Rattle.std.proofs.lemmas.List.Edits.{sets}
+use Rattle.octets.specs.Choice.{pick}
 use Rattle.octets.specs.Number.{part, number_at, bytes_of, is_multiple}
 use Rattle.octets.specs.Alike.{all_are, are_same, differing}
 use Rattle.octets.specs.Hex.{hex_of}
@@ -10,59 +13,75 @@ use Rattle.octets.specs.Decimal.{digits_in, decimal_of}
 use Rattle.checksum.specs.Checksum.{checksum_from, checksum_of}
 use Rattle.parts.specs.declared.Part.{Part}
 use Rattle.parts.specs.Parts.{mspm0, am13e230x}
-use Rattle.line.specs.Acknowledgement.{is_rate, acknowledgement}
+use Rattle.line.specs.declared.acknowledgement.FrameError.{FrameError}
+use Rattle.line.specs.Acknowledgement.{is_rate, acknowledgement, error_code, code_of}
 use Rattle.line.specs.Commands.{command_of}
 use Rattle.line.specs.declared.Reply.{Reply}
 use Rattle.line.specs.Replies.{reply_bytes, Sent, sent, sent_of}
+use Rattle.line.proofs.AcknowledgementLaws.{one_code_one_answer}
 use Rattle.session_state.specs.declared.Phase.{Phase}
 use Rattle.session_state.specs.declared.Standing.{Standing}
-use Rattle.session_state.specs.Phases.{is_valid}
+use Rattle.session_state.specs.Phases.{sleep_of, is_valid}
 use Rattle.session_state.specs.Rates.{rate_of}
 use Rattle.session_state.specs.Waits.{pass_time}
 use Rattle.settings.specs.declared.Shown.{Shown}
-use Rattle.settings.specs.declared.Settings.{Settings}
-use Rattle.settings.specs.declared.Kept.{Kept}
+use Rattle.settings.specs.Held.{Settings}
+use Rattle.settings.specs.Held.{Kept}
 use Rattle.settings.specs.Values.{is_allowed, blank_settings, no_settings}
-use Rattle.settings.specs.Layout.{form1}
+use Rattle.settings.specs.declared.Form.{Form}
+use Rattle.settings.specs.declared.Form.TheVariants.{One, Two}
+use Rattle.settings.specs.Layout.{Layout, form1, layout_of, table_of, pairs_of}
+use Rattle.settings.specs.Forms.{is_form_number, Numbers}
+use Rattle.settings.specs.Layouts.{checked_laid_out, laid_out}
 use Rattle.settings.specs.Bodies.{bodies_of}
 use Rattle.settings.specs.Fields.{fields_read}
 use Rattle.settings.specs.Kept.{blank_kept, no_kept, kept_bodies, kept_read}
-use Rattle.settings.specs.declared.Contents.{Contents}
-use Rattle.settings.specs.declared.WriteAnswer.{WriteAnswer}
-use Rattle.settings.specs.declared.MoveAnswer.{MoveAnswer}
+use Rattle.settings.specs.Held.{Contents}
+use Rattle.settings.specs.declared.WriteError.{WriteError}
+use Rattle.settings.specs.declared.MoveError.{MoveError}
+use Rattle.settings.specs.declared.MoveError.TheVariants as move_error
 use Rattle.settings.specs.declared.Refusal.{Refusal}
 use Rattle.settings.specs.Answers.{numbered, refusal_numbered, read_told, SettingsTold, settings_told, settings_only, write_left, write_number, MoveLeft, move_left, move_numbered}
 use Rattle.settings.specs.Image.{resealed}
 use Rattle.settings.specs.Reader.{read_of, is_accepted}
 use Rattle.settings.specs.Writer.{write_of}
 use Rattle.settings.specs.Moves.{moved_to_one, moved_to_two}
-use Rattle.settings_large.specs.declared.LargeContents.{LargeContents}
-use Rattle.settings_large.specs.declared.LargeWriteAnswer.{LargeWriteAnswer}
+use Rattle.settings_large.specs.Contents.{LargeContents}
+use Rattle.settings_large.specs.declared.LargeWriteError.{LargeWriteError}
 use Rattle.settings_large.specs.Reader as large_reader
 use Rattle.settings_large.specs.Writer as large_writer
-use Rattle.settings_mend.specs.declared.MendAnswer.{MendAnswer}
+use Rattle.settings_mend.specs.declared.Changes.{Changes}
+use Rattle.settings_mend.specs.declared.MendError.{MendError}
 use Rattle.settings_mend.specs.Examining.{examined_of}
 use Rattle.settings_mend.specs.Mending.{mend_left, mend_told, mend_of}
 use Rattle.flash.specs.declared.Region.{Region}
 use Rattle.flash.specs.Regions.{is_main_size, place_of}
-use Rattle.flash.specs.Memory.{memory, bytes_in}
+use Rattle.flash.specs.declared.Areas.{Areas}
+use Rattle.flash.specs.declared.Sectors.{Sectors}
+use Rattle.flash.specs.Memory.{Memory, memory, memory_in, bytes_in}
 use Rattle.flash.specs.Erasing.{erase_of, erase_all_of}
 use Rattle.flash.specs.Programming.{program_of}
 use Rattle.session_judge.specs.declared.Effect.{Effect}
 use Rattle.session_judge.specs.Hearing.{judged_of}
 use Rattle.session_act.specs.declared.Order.{Order}
 use Rattle.session_act.specs.Orders.{carried_out}
-use Rattle.session_act.specs.Acting.{plan_of}
+use Rattle.session_act.specs.declared.Site.{Site}
+use Rattle.session_act.specs.Board.{board_in}
+use Rattle.session_act.specs.Plans.{says}
+use Rattle.session_act.specs.Acting.{plan_on}
 use Rattle.session_send.specs.Answering.{answer_of}
 use Rattle.session.specs.declared.Session.{Session}
-use Rattle.session.specs.declared.StartAnswer.{StartAnswer}
-use Rattle.session.specs.declared.CallAnswer.{CallAnswer}
+use Rattle.session.specs.declared.StartError.{StartError}
+use Rattle.session.specs.declared.StartError.TheVariants as start_error
+use Rattle.session.specs.declared.CallError.{CallError}
 use Rattle.session.specs.declared.Called.{Called}
-use Rattle.session.specs.StartAnswers.{start_numbered, start_told}
-use Rattle.session.specs.CallAnswers.{call_numbered, left, call_left}
-use Rattle.session.specs.Starting.{start_of}
+use Rattle.session.specs.CallAnswers.{Left, left, call_left}
+use Rattle.session.specs.Starting.{start_told, start_of}
 use Rattle.session.specs.Calling.{call_of}
+use Rattle.session_in_place.specs.declared.Done.{Done}
+use Rattle.session_in_place.specs.Starting as in_place
 use Rattle.session_in_place.specs.Starting.{start_left, start_in_place}
+use Rattle.session_in_place.specs.Calling.{done_told}
 use Rattle.c_records.specs.OneNumber.{refusal_of}
 use Rattle.c_records.specs.Stored.{Stored, stored}
 use Rattle.c_records.specs.SettingsFromC.{read_from_c, write_from_c, to_one_from_c, to_two_from_c}
@@ -92,6 +111,9 @@ byte_at_is_one bytes at = as_said (get_or bytes at 0)
 -- of the slice that comes back, the bytes; where they lie is not said
 pub part_of_is_one : (bytes : List ℕ) (at count : ℕ) → OneAnswer (λ r. r ≡ part at count bytes)
 part_of_is_one bytes at count = as_said (part at count bytes)
+
+pub array_at_is_one : (N : ℕ) (bytes : List ℕ) (at : ℕ) → OneAnswer (λ r. r ≡ sets (replicate N 0) 0 (part at N bytes))
+array_at_is_one N bytes at = as_said (sets (replicate N 0) 0 (part at N bytes))
 
 pub number16_at_is_one : (bytes : List ℕ) (at : ℕ) → OneAnswer (λ r. r ≡ number_at at 2 bytes)
 number16_at_is_one bytes at = as_said (number_at at 2 bytes)
@@ -153,8 +175,11 @@ am13e230x_part_is_one = as_said am13e230x
 pub is_rate_is_one : (last_rate id : ℕ) → OneAnswer (λ r. r ≡ is_rate last_rate id)
 is_rate_is_one last_rate id = as_said (is_rate last_rate id)
 
-pub acknowledge_is_one : (last_rate : ℕ) (packet : List ℕ) → OneAnswer (λ r. r ≡ acknowledgement last_rate packet)
-acknowledge_is_one last_rate packet = as_said (acknowledgement last_rate packet)
+pub acknowledge_is_one : (last_rate : ℕ) (packet : List ℕ) → OneAnswer (λ r. code_of r ≡ acknowledgement last_rate packet)
+acknowledge_is_one last_rate packet one other this that = one_code_one_answer one other (this ∙ sym that)
+
+pub error_code_is_one : (error : FrameError) → OneAnswer (λ r. r ≡ error_code error)
+error_code_is_one error = as_said (error_code error)
 
 pub read_command_is_one : (packet : List ℕ) → OneAnswer (λ r. r ≡ command_of packet)
 read_command_is_one packet = as_said (command_of packet)
@@ -176,6 +201,9 @@ pub rate_of_is_one : (last_rate id : ℕ) → OneAnswer (λ r. r ≡ rate_of las
 rate_of_is_one last_rate id = as_said (rate_of last_rate id)
 
 -- ---- session_state: time
+
+pub sleep_is_one : (self : Phase) → OneAnswer (λ r. r ≡ sleep_of self)
+sleep_is_one phase = as_said (sleep_of phase)
 
 pub pass_time_is_one : (standing : Standing) (wait : ℕ) → OneAnswer (λ r. r ≡ pass_time standing wait)
 pass_time_is_one standing wait = as_said (pass_time standing wait)
@@ -213,16 +241,21 @@ put_kept_is_one area at kept = as_said (sets area at (kept_bodies kept))
 
 -- ---- settings: the image
 
+read_again : (read : Result Contents Refusal) → read_by (numbered (read_told read).number (read_told read).entry) (read_told read).contents ≡ read
+unfolding read_by pick
+read_again (Ok contents) = refl
+read_again (Err why) = read_back _ why
+
 pub read_is_one : (image : List ℕ) → OneAnswer (λ r. read_told r ≡ read_of image)
-read_is_one image =
-    given_back read_told (λ told. record { answer = read_by (numbered told.number told.entry); contents = told.contents })
-    (λ r. ap (λ answer. record { answer = answer; contents = r.contents }) (read_back r.answer))
-    (read_of image)
+read_is_one image = given_back read_told (λ told. read_by (numbered told.number told.entry) told.contents) read_again (read_of image)
+
+settings_again : (read : Result Kept Refusal) → read_by (numbered (settings_told read).number (settings_told read).entry) (settings_told read).settings ≡ read
+unfolding read_by pick
+settings_again (Ok settings) = refl
+settings_again (Err why) = read_back _ why
 
 settings_told_is_one : (value : SettingsTold) → OneAnswer (λ r. settings_told r ≡ value)
-settings_told_is_one =
-    given_back settings_told (λ told. record { answer = read_by (numbered told.number told.entry); settings = told.settings })
-    (λ r. ap (λ answer. record { answer = answer; settings = r.settings }) (read_back r.answer))
+settings_told_is_one = given_back settings_told (λ told. read_by (numbered told.number told.entry) told.settings) settings_again
 
 pub read_settings_is_one : (image : List ℕ) → OneAnswer (λ r. settings_told r ≡ settings_only (read_of image))
 read_settings_is_one image = settings_told_is_one (settings_only (read_of image))
@@ -233,35 +266,67 @@ accepts_is_one image = as_said (is_accepted image)
 pub reseal_is_one : (image : List ℕ) → OneAnswer (λ image'. image' ≡ resealed image)
 reseal_is_one image = as_said (resealed image)
 
-pub write_is_one : (contents : Contents) (image : List ℕ) → OneAnswer {A = WriteAnswer × List ℕ} (λ r. write_left (write_number r.0) r.1 ≡ write_of contents image)
+pub form_number_is_one : (form : Form) → OneAnswer (λ r. r ≡ (layout_of form).form)
+form_number_is_one form = as_said (layout_of form).form
+
+pub numbered_form_is_one : (number : ℕ) → OneAnswer (λ r. Numbers number r)
+unfolding is_form_number pick
+numbered_form_is_one number (Ok One) (Ok One) this that = refl
+numbered_form_is_one number (Ok One) (Ok Two) this that = absurd (omega (arith, this, that))
+numbered_form_is_one number (Ok Two) (Ok One) this that = absurd (omega (arith, this, that))
+numbered_form_is_one number (Ok Two) (Ok Two) this that = refl
+numbered_form_is_one number (Ok One) (Err none) this that = absurd (true≢false (ap is_form_number this ∙ that))
+numbered_form_is_one number (Ok Two) (Err none) this that = absurd (true≢false (ap is_form_number this ∙ that))
+numbered_form_is_one number (Err none) (Ok One) this that = absurd (true≢false (ap is_form_number that ∙ this))
+numbered_form_is_one number (Err none) (Ok Two) this that = absurd (true≢false (ap is_form_number that ∙ this))
+numbered_form_is_one number (Err none) (Err other) this that = refl
+
+-- whatever the layout
+pub layout_table_is_one : (layout : Layout) → OneAnswer (λ r. r ≡ pairs_of (table_of layout))
+layout_table_is_one layout = as_said (pairs_of (table_of layout))
+
+pub check_laid_out_is_one : (layout : Layout) (image : List ℕ) → OneAnswer (λ r. r ≡ checked_laid_out layout image)
+check_laid_out_is_one layout image = as_said (checked_laid_out layout image)
+
+pub put_laid_out_is_one : (layout : Layout) (image six name : List ℕ) → OneAnswer (λ image'. image' ≡ laid_out layout six name (length image))
+put_laid_out_is_one layout image six name = as_said (laid_out layout six name (length image))
+
+pub write_is_one : (contents : Contents) (image : List ℕ) → OneAnswer {A = Result Unit WriteError × List ℕ} (λ r. write_left (write_number r.0) r.1 ≡ write_of contents image)
 write_is_one contents image =
     given_back (λ r. write_left (write_number r.0) r.1) (λ l. (written_by l.number, l.image))
     (λ r. ap (λ answer. (answer, r.1)) (written_back r.0))
     (write_of contents image)
 
-moving_is_one : (value : MoveLeft) → OneAnswer {A = MoveAnswer × List ℕ} (λ r. move_left (move_numbered r.0) r.1 ≡ value)
+moving_is_one : (value : MoveLeft) → OneAnswer {A = Result Unit MoveError × List ℕ} (λ r. move_left (move_numbered r.0) r.1 ≡ value)
 moving_is_one =
     given_back (λ r. move_left (move_numbered r.0) r.1) (λ l. (moved_by l.told, l.image)) (λ r. ap (λ answer. (answer, r.1)) (moved_back r.0))
 
-pub to_form_1_is_one : (image : List ℕ) → OneAnswer {A = MoveAnswer × List ℕ} (λ r. move_left (move_numbered r.0) r.1 ≡ moved_to_one image)
+pub to_form_1_is_one : (image : List ℕ) → OneAnswer {A = Result Unit MoveError × List ℕ} (λ r. move_left (move_numbered r.0) r.1 ≡ moved_to_one image)
 to_form_1_is_one image = moving_is_one (moved_to_one image)
 
-pub to_form_2_is_one : (image : List ℕ) → OneAnswer {A = MoveAnswer × List ℕ} (λ r. move_left (move_numbered r.0) r.1 ≡ moved_to_two image)
+pub to_form_2_is_one : (image : List ℕ) → OneAnswer {A = Result Unit MoveError × List ℕ} (λ r. move_left (move_numbered r.0) r.1 ≡ moved_to_two image)
 to_form_2_is_one image = moving_is_one (moved_to_two image)
+
+pub move_error_is_one : (refusal : Refusal) → OneAnswer (λ r. r ≡ move_error.Image refusal)
+move_error_is_one refusal = as_said (move_error.Image refusal)
 
 -- ---- settings_large
 
+large_read_again : (read : Result LargeContents Refusal)
+    → read_by (numbered (large_reader.read_told read).number (large_reader.read_told read).entry) (large_reader.read_told read).contents ≡ read
+unfolding read_by pick
+large_read_again (Ok contents) = refl
+large_read_again (Err why) = read_back _ why
+
 pub large_read_is_one : (image : List ℕ) → OneAnswer (λ r. large_reader.read_told r ≡ large_reader.read_of image)
 large_read_is_one image =
-    given_back large_reader.read_told (λ told. record { answer = read_by (numbered told.number told.entry); contents = told.contents })
-    (λ r. ap (λ answer. record { answer = answer; contents = r.contents }) (read_back r.answer))
-    (large_reader.read_of image)
+    given_back large_reader.read_told (λ told. read_by (numbered told.number told.entry) told.contents) large_read_again (large_reader.read_of image)
 
 pub large_read_settings_is_one : (image : List ℕ) → OneAnswer (λ r. settings_told r ≡ large_reader.settings_only (large_reader.read_of image))
 large_read_settings_is_one image = settings_told_is_one (large_reader.settings_only (large_reader.read_of image))
 
 pub large_write_is_one : (contents : LargeContents) (image : List ℕ)
-    → OneAnswer {A = LargeWriteAnswer × List ℕ} (λ r. write_left (large_writer.write_number r.0) r.1 ≡ large_writer.write_of contents image)
+    → OneAnswer {A = Result Unit LargeWriteError × List ℕ} (λ r. write_left (large_writer.write_number r.0) r.1 ≡ large_writer.write_of contents image)
 large_write_is_one contents image =
     given_back (λ r. write_left (large_writer.write_number r.0) r.1) (λ l. (large_written_by l.number, l.image))
     (λ r. ap (λ answer. (answer, r.1)) (large_written_back r.0))
@@ -272,7 +337,7 @@ large_write_is_one contents image =
 pub examine_is_one : (image : List ℕ) → OneAnswer (λ r. r ≡ examined_of image)
 examine_is_one image = as_said (examined_of image)
 
-pub mend_is_one : (image : List ℕ) → OneAnswer {A = MendAnswer × List ℕ} (λ r. mend_left (mend_told r.0) r.1 ≡ mend_of image)
+pub mend_is_one : (image : List ℕ) → OneAnswer {A = Result Changes MendError × List ℕ} (λ r. mend_left (mend_told r.0) r.1 ≡ mend_of image)
 mend_is_one image =
     given_back (λ r. mend_left (mend_told r.0) r.1) (λ l. (mended_by l.told, l.image)) (λ r. ap (λ answer. (answer, r.1)) (mended_back r.0))
     (mend_of image)
@@ -287,30 +352,38 @@ pub locate_is_one : (part : Part) (main_size : ℕ) (protection : List ℕ) (set
 locate_is_one part main_size protection settings_protected first count = as_said (place_of part main_size protection settings_protected first count)
 
 -- of the slice that comes back, the bytes
-pub bytes_in_is_one : (region : Region) (offset size : ℕ) (main image window : List ℕ) → OneAnswer (λ r. r ≡ bytes_in offset size (memory main image window) region)
-bytes_in_is_one region offset size main image window = as_said (bytes_in offset size (memory main image window) region)
+pub bytes_in_is_one : (region : Region) (offset size : ℕ) (areas : Areas) → OneAnswer (λ r. r ≡ bytes_in offset size (memory_in areas) region)
+bytes_in_is_one region offset size areas = as_said (bytes_in offset size (memory_in areas) region)
 
 -- ---- flash: sectors
 
-pub erase_between_is_one : (memory : List ℕ) (sector_size : ℕ) (protection : List ℕ) (start end : ℕ)
-    → OneAnswer (λ memory'. memory' ≡ erase_of sector_size protection (start / sector_size) (end / sector_size) memory)
-erase_between_is_one memory sector_size protection start end = as_said (erase_of sector_size protection (start / sector_size) (end / sector_size) memory)
+pub erase_between_is_one : (memory : List ℕ) (sectors : Sectors) (start end : ℕ)
+    → OneAnswer (λ memory'. memory' ≡ erase_of sectors.size sectors.protection.now (start / sectors.size) (end / sectors.size) memory)
+erase_between_is_one memory sectors start end =
+    as_said (erase_of sectors.size sectors.protection.now (start / sectors.size) (end / sectors.size) memory)
 
-pub erase_all_is_one : (memory : List ℕ) (sector_size : ℕ) (protection : List ℕ) → OneAnswer (λ memory'. memory' ≡ erase_all_of sector_size protection memory)
-erase_all_is_one memory sector_size protection = as_said (erase_all_of sector_size protection memory)
+pub erase_all_is_one : (memory : List ℕ) (sectors : Sectors) → OneAnswer (λ memory'. memory' ≡ erase_all_of sectors.size sectors.protection.now memory)
+erase_all_is_one memory sectors = as_said (erase_all_of sectors.size sectors.protection.now memory)
 
 -- ---- flash: programming
 
-pub program_is_one : (memory : List ℕ) (sector_size : ℕ) (protection : List ℕ) (at : ℕ) (bytes : List ℕ) → OneAnswer (λ memory'. memory' ≡ program_of sector_size protection at bytes memory)
-program_is_one memory sector_size protection at bytes = as_said (program_of sector_size protection at bytes memory)
+pub program_is_one : (memory : List ℕ) (sectors : Sectors) (at : ℕ) (bytes : List ℕ)
+    → OneAnswer (λ memory'. memory' ≡ program_of sectors.size sectors.protection.now at bytes memory)
+program_is_one memory sectors at bytes = as_said (program_of sectors.size sectors.protection.now at bytes memory)
 
 -- ---- session: its start
 
+start_again : (started : Result Session StartError) → started_by (start_told started).answer (start_told started).session ≡ started
+unfolding started_by pick
+start_again (Ok session) = refl
+start_again (Err error) = started_back _ error
+
 pub start_is_one : (part : Part) (fuse : Bool) (main image window : List ℕ) → OneAnswer (λ r. start_told r ≡ start_of part fuse main image window)
 start_is_one part fuse main image window =
-    given_back start_told (λ told. record { answer = started_by told.answer; session = told.session })
-    (λ r. ap (λ answer. record { answer = answer; session = r.session }) (started_back r.answer))
-    (start_of part fuse main image window)
+    given_back start_told (λ told. started_by told.answer told.session) start_again (start_of part fuse main image window)
+
+pub start_error_is_one : (refusal : Refusal) → OneAnswer (λ r. r ≡ start_error.Image refusal)
+start_error_is_one refusal = as_said (start_error.Image refusal)
 
 -- ---- session_judge
 
@@ -319,31 +392,45 @@ judge_is_one last_rate standing alert wait packet right = as_said (judged_of las
 
 -- ---- session_act
 
-pub plan_is_one : (part : Part) (effect : Effect) (shown : Shown) (main_size : ℕ) (protection : List ℕ) (right : Bool) (main image window : List ℕ)
-    → OneAnswer (λ r. r ≡ plan_of part main_size shown protection right (memory main image window) effect)
-plan_is_one part effect shown main_size protection right main image window = as_said (plan_of part main_size shown protection right (memory main image window) effect)
+pub planned_is_one : (reply : Reply) → OneAnswer (λ r. r ≡ says reply)
+planned_is_one reply = as_said (says reply)
 
-pub carry_out_is_one : (part : Part) (order : Order) (shown : Shown) (protection packet main image window : List ℕ)
-    → OneAnswer {A = List ℕ × List ℕ × List ℕ} (λ r. memory r.0 r.1 r.2 ≡ carried_out part shown protection packet (memory main image window) order)
-carry_out_is_one part order shown protection packet main image window =
+pub plan_is_one : (site : Site) (effect : Effect) (right : Bool) (areas : Areas) → OneAnswer (λ r. r ≡ plan_on (board_in site) right (memory_in areas) effect)
+plan_is_one site effect right areas = as_said (plan_on (board_in site) right (memory_in areas) effect)
+
+pub carry_out_is_one : (site : Site) (order : Order) (packet main image window : List ℕ)
+    → OneAnswer {A = List ℕ × List ℕ × List ℕ} (λ r. memory r.0 r.1 r.2 ≡ carried_out site.part site.shown site.protection.now packet (memory main image window) order)
+carry_out_is_one site order packet main image window =
     given_back (λ r. memory r.0 r.1 r.2) (λ after. (after.main, after.settings, after.window)) (λ r. refl)
-    (carried_out part shown protection packet (memory main image window) order)
+    (carried_out site.part site.shown site.protection.now packet (memory main image window) order)
 
 -- ---- session_send
 
-pub answer_is_one : (reply : Reply) (region : Region) (offset count : ℕ) (packet main image window area : List ℕ)
-    → OneAnswer {A = ℕ × List ℕ} (λ r. sent r.0 r.1 ≡ answer_of reply region offset count packet (memory main image window) area)
-answer_is_one reply region offset count packet main image window area = sent_is_one (answer_of reply region offset count packet (memory main image window) area)
+pub answer_is_one : (reply : Reply) (region : Region) (offset count : ℕ) (packet : List ℕ) (areas : Areas) (area : List ℕ)
+    → OneAnswer {A = ℕ × List ℕ} (λ r. sent r.0 r.1 ≡ answer_of reply region offset count packet (memory_in areas) area)
+answer_is_one reply region offset count packet areas area = sent_is_one (answer_of reply region offset count packet (memory_in areas) area)
 
 -- ---- session: its calls
 
+abbrev call_back : Left → Result Called CallError
+call_back l = called_by l.answer.number (record { session = l.session; size = l.answer.size; burn = l.answer.burn })
+
+abbrev call_parts : Left → Result Called CallError × Memory × List ℕ
+call_parts l = (call_back l, l.memory, l.area)
+
+call_again : (session : Session) (called : Result Called CallError) (main image window area : List ℕ)
+    → ◌≡◌ {A = Result Called CallError × Memory × List ℕ} (call_parts (call_left session called (memory main image window) area)) (called, memory main image window, area)
+unfolding called_by pick
+call_again session (Ok called) main image window area = refl
+call_again session (Err error) main image window area = ap (λ (r : Result Called CallError). (r, memory main image window, area)) (called_back _ error)
+
 pub call_is_one : (part : Part) (session : Session) (main image window : List ℕ) (wait : ℕ) (packet area : List ℕ)
-    → OneAnswer {A = Called × List ℕ × List ℕ × List ℕ × List ℕ}
-    (λ r. call_left r.0 (memory r.1 r.2 r.3) r.4 ≡ call_of part session (memory main image window) wait packet area)
+    → OneAnswer {A = Result Called CallError × List ℕ × List ℕ × List ℕ × List ℕ}
+    (λ r. call_left session r.0 (memory r.1 r.2 r.3) r.4 ≡ call_of part session (memory main image window) wait packet area)
 call_is_one part session main image window wait packet area =
-    given_back (λ r. call_left r.0 (memory r.1 r.2 r.3) r.4)
-    (λ l. (record { answer = called_by l.answer; session = l.session }, l.memory.main, l.memory.settings, l.memory.window, l.area))
-    (λ r. ap (λ answer. (record { answer = answer; session = r.0.session }, r.1, r.2, r.3, r.4)) (called_back r.0.answer))
+    given_back (λ r. call_left session r.0 (memory r.1 r.2 r.3) r.4)
+    (λ l. (call_back l, l.memory.main, l.memory.settings, l.memory.window, l.area))
+    (λ r. ap (λ (l : Result Called CallError × Memory × List ℕ). (l.0, l.1.main, l.1.settings, l.1.window, l.2)) (call_again session r.0 r.1 r.2 r.3 r.4))
     (call_of part session (memory main image window) wait packet area)
 
 -- ---- mspm0
@@ -352,8 +439,8 @@ pub mspm0_start_is_one : (fuse : Bool) (main image window : List ℕ) → OneAns
 mspm0_start_is_one = start_is_one mspm0
 
 pub mspm0_call_is_one : (session : Session) (main image window : List ℕ) (wait : ℕ) (packet area : List ℕ)
-    → OneAnswer {A = Called × List ℕ × List ℕ × List ℕ × List ℕ}
-    (λ r. call_left r.0 (memory r.1 r.2 r.3) r.4 ≡ call_of mspm0 session (memory main image window) wait packet area)
+    → OneAnswer {A = Result Called CallError × List ℕ × List ℕ × List ℕ × List ℕ}
+    (λ r. call_left session r.0 (memory r.1 r.2 r.3) r.4 ≡ call_of mspm0 session (memory main image window) wait packet area)
 mspm0_call_is_one = call_is_one mspm0
 
 -- ---- am13e230x
@@ -362,30 +449,40 @@ pub am13e230x_start_is_one : (fuse : Bool) (main image : List ℕ) → OneAnswer
 am13e230x_start_is_one fuse main image = start_is_one am13e230x fuse main image []
 
 pub am13e230x_call_is_one : (session : Session) (main image : List ℕ) (wait : ℕ) (packet area : List ℕ)
-    → OneAnswer {A = Called × List ℕ × List ℕ × List ℕ}
-    (λ r. call_left r.0 (memory r.1 r.2 []) r.3 ≡ call_of am13e230x session (memory main image []) wait packet area)
+    → OneAnswer {A = Result Called CallError × List ℕ × List ℕ × List ℕ}
+    (λ r. call_left session r.0 (memory r.1 r.2 []) r.3 ≡ call_of am13e230x session (memory main image []) wait packet area)
 am13e230x_call_is_one session main image wait packet area =
-    given_back (λ r. call_left r.0 (memory r.1 r.2 []) r.3)
-    (λ l. (record { answer = called_by l.answer; session = l.session }, l.memory.main, l.memory.settings, l.area))
-    (λ r. ap (λ answer. (record { answer = answer; session = r.0.session }, r.1, r.2, r.3)) (called_back r.0.answer))
+    given_back (λ r. call_left session r.0 (memory r.1 r.2 []) r.3)
+    (λ l. (call_back l, l.memory.main, l.memory.settings, l.area))
+    (λ r. ap (λ (l : Result Called CallError × Memory × List ℕ). (l.0, l.1.main, l.1.settings, l.2)) (call_again session r.0 r.1 r.2 [] r.3))
     (call_of am13e230x session (memory main image []) wait packet area)
 
 -- ---- session_in_place
 
+in_place_start_again : (started : Result Unit StartError) → started_by (in_place.start_told started) tt ≡ started
+unfolding started_by pick
+in_place_start_again (Ok done) = refl
+in_place_start_again (Err error) = started_back _ error
+
 pub in_place_start_is_one : (session : Session) (fuse : Bool) (main image window : List ℕ)
-    → OneAnswer {A = StartAnswer × Session} (λ r. start_left (start_numbered r.0) r.1 ≡ start_in_place session fuse main image window)
+    → OneAnswer {A = Result Unit StartError × Session} (λ r. start_left (in_place.start_told r.0) r.1 ≡ start_in_place session fuse main image window)
 in_place_start_is_one session fuse main image window =
-    given_back (λ r. start_left (start_numbered r.0) r.1) (λ told. (started_by told.answer, told.session))
-    (λ r. ap (λ answer. (answer, r.1)) (started_back r.0))
+    given_back (λ r. start_left (in_place.start_told r.0) r.1) (λ told. (started_by told.answer tt, told.session))
+    (λ r. ap (λ answer. (answer, r.1)) (in_place_start_again r.0))
     (start_in_place session fuse main image window)
 
+in_place_call_again : (done : Result Done CallError) → called_by (done_told done).number (record { size = (done_told done).size; burn = (done_told done).burn }) ≡ done
+unfolding called_by pick
+in_place_call_again (Ok done) = refl
+in_place_call_again (Err error) = called_back _ error
+
 pub in_place_call_is_one : (session : Session) (main image window : List ℕ) (wait : ℕ) (packet area : List ℕ)
-    → OneAnswer {A = CallAnswer × Session × List ℕ × List ℕ × List ℕ × List ℕ}
-    (λ r. left (call_numbered r.0) r.1 (memory r.2 r.3 r.4) r.5 ≡ call_of mspm0 session (memory main image window) wait packet area)
+    → OneAnswer {A = Result Done CallError × Session × List ℕ × List ℕ × List ℕ × List ℕ}
+    (λ r. left (done_told r.0) r.1 (memory r.2 r.3 r.4) r.5 ≡ call_of mspm0 session (memory main image window) wait packet area)
 in_place_call_is_one session main image window wait packet area =
-    given_back (λ r. left (call_numbered r.0) r.1 (memory r.2 r.3 r.4) r.5)
-    (λ l. (called_by l.answer, l.session, l.memory.main, l.memory.settings, l.memory.window, l.area))
-    (λ r. ap (λ answer. (answer, r.1, r.2, r.3, r.4, r.5)) (called_back r.0))
+    given_back (λ r. left (done_told r.0) r.1 (memory r.2 r.3 r.4) r.5)
+    (λ l. (called_by l.answer.number (record { size = l.answer.size; burn = l.answer.burn }), l.session, l.memory.main, l.memory.settings, l.memory.window, l.area))
+    (λ r. ap (λ answer. (answer, r.1, r.2, r.3, r.4, r.5)) (in_place_call_again r.0))
     (call_of mspm0 session (memory main image window) wait packet area)
 
 -- ---- c_records: numbers

@@ -20,7 +20,7 @@ use Rattle.line.specs.Packet.{data_in}
 use Rattle.settings.specs.declared.Shown.{Shown}
 use Rattle.flash.specs.Memory.{Memory, memory}
 use Rattle.flash.specs.declared.Place.{Place}
-use Rattle.flash.specs.Regions.{main_start, lies_within, place_of}
+use Rattle.flash.specs.Regions.{main_start, lies_within, has_protected, place_of}
 use Rattle.flash.specs.Protection.{is_protected}
 use Rattle.flash.specs.Erasing.{erase_of, erase_all_of}
 use Rattle.flash.proofs.ProtectionLaws.{bits_beyond_have_no_effect}
@@ -112,7 +112,7 @@ module _ (part : Part) where
         pick (is_outside place.region) (tells codes.invalid_range)
         (pick (is_window place.region) (orders codes.success (program_in place.offset size place.region))
         (pick (is_aligned part.word_size address size)
-        (pick place.is_protected (tells codes.invalid_range)
+        (pick (has_protected place) (tells codes.invalid_range)
         (pick written (says FlashError) (orders codes.success (program_in place.offset size place.region))))
         (tells codes.not_aligned))))
         (words_same address size)

@@ -1,5 +1,6 @@
 -- Demand 1 and 2: what holds of every start and of every call, over the definitions that `start` and `call` are proved to meet. That a refused call
 -- changes nothing, and that no reply has more than 1,729 bytes, stands in the loader's own CallLaws; which numbers there are, in NumberRule.
+use Rattle.std.specs.Prelude.{Some, None, Ok, Err}
 use mathlib.Core.Path.{◌≡◌, refl, sym, ap, subst, ◌∙◌}
 use mathlib.Core.Bool.{Bool, true, false, true≢false, not}
 use mathlib.Core.List.{List, ◌∷◌}
@@ -26,10 +27,8 @@ use Rattle.session_state.proofs.PhaseLaws.{valid_by_parts, start_is_valid}
 use Rattle.session_state.proofs.WaitLaws.{long_wait_is_heard}
 use Rattle.settings.specs.Values.{is_allowed, blank_settings}
 use Rattle.settings.specs.declared.Forms.TheVariants.{Both}
-use Rattle.settings.specs.declared.Checked.{Checked}
-use Rattle.settings.specs.declared.Checked.TheVariants as checked
 use Rattle.settings.specs.Answers.{numbered, SettingsTold, settings_only}
-use Rattle.settings.specs.Reader.{checked_of, read_as, read_of}
+use Rattle.settings.specs.Reader.{Checked, checked_of, read_as, read_of}
 use Rattle.settings.proofs.ReaderLaws.{refuses}
 use Rattle.settings.specs.Layout.{image_size}
 use Rattle.settings_large.specs.Contents.{kept_in}
@@ -174,16 +173,16 @@ module _ (part : Part) where
     found_is_allowed : (found : Checked) → Checks.Good Both image found → (read_as image found).number ≡ 0
         → is_allowed (read_as image found).contents.settings.shown ≡ true
     unfolding Checks.Good
-    found_is_allowed checked.Blank blank e = blank_is_allowed
-    found_is_allowed (checked.Written form) good e = read_is_allowed form image good.0.size good.0.value
-    found_is_allowed (checked.Refused refusal) good e = absurd (eqb-false _ _ (refuses refusal) e)
+    found_is_allowed (Ok None) blank e = blank_is_allowed
+    found_is_allowed (Ok (Some form)) good e = read_is_allowed form image good.0.size good.0.value
+    found_is_allowed (Err refusal) good e = absurd (eqb-false _ _ (refuses refusal) e)
 
     larger_is_allowed : (found : Checked) → Larger.Good image found → (larger.read_as image found).number ≡ 0
         → is_allowed (larger.read_as image found).contents.settings.shown ≡ true
     unfolding Larger.Good kept_in larger.value_not_allowed
-    larger_is_allowed checked.Blank blank e = blank_is_allowed
-    larger_is_allowed (checked.Written form) passed e = (pick_both _ _ (not-false _ passed.value)).0
-    larger_is_allowed (checked.Refused refusal) good e = absurd (eqb-false _ _ (refuses refusal) e)
+    larger_is_allowed (Ok None) blank e = blank_is_allowed
+    larger_is_allowed (Ok (Some form)) passed e = (pick_both _ _ (not-false _ passed.value)).0
+    larger_is_allowed (Err refusal) good e = absurd (eqb-false _ _ (refuses refusal) e)
 
     pub accepted_is_allowed : (settings_read image).number ≡ 0 → is_allowed (settings_read image).settings.shown ≡ true
     unfolding settings_read read_of larger.read_of
@@ -196,9 +195,9 @@ module _ (part : Part) where
   module _ (image : List ℕ) where
     found_has_size : (found : Checked) → Checks.Good Both image found → (read_as image found).number ≡ 0 → length image ≡ image_size
     unfolding Checks.Good
-    found_has_size checked.Blank blank e = eqb-true _ _ (pick_both _ _ blank).0
-    found_has_size (checked.Written form) good e = good.0.size
-    found_has_size (checked.Refused refusal) good e = absurd (eqb-false _ _ (refuses refusal) e)
+    found_has_size (Ok None) blank e = eqb-true _ _ (pick_both _ _ blank).0
+    found_has_size (Ok (Some form)) good e = good.0.size
+    found_has_size (Err refusal) good e = absurd (eqb-false _ _ (refuses refusal) e)
 
     pub accepted_has_size : (read_of image).number ≡ 0 → length image ≡ image_size
     unfolding read_of

@@ -1,5 +1,6 @@
 -- Demand 1: "A refused call has its number from the table". Every call has an answer, and it is one of these numbers; 0 stands for a call
 -- that is not refused. Over the definitions that the functions are proved to meet, by value and from C.
+use Rattle.std.specs.Prelude.{Result, Option, Some, None, Ok, Err}
 use mathlib.Core.Path.{◌≡◌, refl, sym, subst}
 use mathlib.Core.Bool.{Bool, true, false≢true, not}
 use mathlib.Core.List.{List, [], ◌∷◌}
@@ -17,19 +18,15 @@ use Rattle.settings.specs.declared.Form.{Form}
 use Rattle.settings.specs.declared.Form.TheVariants.{One, Two}
 use Rattle.settings.specs.declared.Forms.{Forms}
 use Rattle.settings.specs.declared.Forms.TheVariants.{Both, OnlyOne, OnlyTwo}
-use Rattle.settings.specs.declared.Found.{Found}
-use Rattle.settings.specs.declared.Found.TheVariants.{Known, Unknown}
-use Rattle.settings.specs.declared.Checked.{Checked}
-use Rattle.settings.specs.declared.Checked.TheVariants as checked
-use Rattle.settings.specs.declared.Contents.{Contents}
+use Rattle.settings.specs.Held.{Contents}
 use Rattle.settings.specs.Values.{is_allowed}
 use Rattle.settings.specs.Layout.{large, layout_of, image_size}
 use Rattle.settings.specs.Entries.{differing_entry}
 use Rattle.settings.specs.Bodies.{contents_in}
 use Rattle.settings.specs.Answers.{Numbered, numbered, refusal_numbered, WriteLeft, SettingsTold}
-use Rattle.settings.specs.Reader.{is_blank, checksum_differs, is_form, found_in, filler_differs, value_not_allowed, checked_in, checked_found, checked_written, checked_of, read_as, read_of}
+use Rattle.settings.specs.Reader.{Checked, is_blank, checksum_differs, is_form, found_in, filler_differs, value_not_allowed, checked_in, checked_found, checked_written, checked_of, read_as, read_of}
 use Rattle.octets.specs.Alike.{all_are}
-use Rattle.settings_large.specs.declared.LargeContents.{LargeContents}
+use Rattle.settings_large.specs.Contents.{LargeContents}
 use Rattle.settings_large.specs.Image.{large_size}
 use Rattle.settings_large.specs.Reader as larger
 use Rattle.settings_large.specs.Writer as large_writer
@@ -41,6 +38,8 @@ use Rattle.settings.proofs.LayoutLaws.{count_is_few}
 use Rattle.settings.proofs.ReaderLaws.{differing_entry_there}
 use Rattle.settings_mend.specs.declared.Examined.{Examined}
 use Rattle.settings_mend.specs.declared.Examined.TheVariants as examined
+use Rattle.settings_mend.specs.declared.MendError.{MendError}
+use Rattle.settings_mend.specs.declared.MendError.TheVariants as mending
 use Rattle.settings_mend.specs.Examining.{examined_of}
 use Rattle.settings_mend.specs.Mending.{mend_as, mend_of}
 use Rattle.flash.specs.Memory.{Memory, memory}
@@ -112,14 +111,14 @@ module _ (image : List ℕ) where
   abbrev ReadWell : Checked → Type 0
   ReadWell found = Told read_numbers (read_as image found).number (read_as image found).entry
 
-  form_is_answered : (found : Found) → ReadWell (checked_found image found)
+  form_is_answered : (found : Option Form) → ReadWell (checked_found image found)
   unfolding checked_in is_one_of pick
-  form_is_answered (Known form) =
+  form_is_answered (Some form) =
       by_pick ReadWell (not (eqb (differing_entry (layout_of form) image) 0)) _ _
       (λ y. (refl, omega (arith, differing_entry_there (layout_of form) image, count_is_few form)))
       (λ n. by_pick ReadWell (filler_differs form image) _ _ (λ y. (refl, omega arith))
       (λ n. by_pick ReadWell (value_not_allowed form image) _ _ (λ y. (refl, omega arith)) (λ n. (refl, omega arith))))
-  form_is_answered Unknown = (refl, omega arith)
+  form_is_answered None = (refl, omega arith)
 
   check_is_answered : (forms : Forms) → ReadWell (checked_of forms image)
   unfolding checked_of checked_written is_one_of pick
@@ -153,19 +152,19 @@ unfolding move_of is_one_of pick
 move_is_answered from to image = as_found (checked_of from image) (check_is_answered image from)
   where
     as_found : (found : Checked) → ReadWell image found → Told move_numbers (move_as to image found).told.number (move_as to image found).told.entry
-    as_found checked.Blank well = (refl, omega arith)
-    as_found (checked.Written form) well = (every_write (in_form to (contents_in form image)) image move_numbers refl refl refl refl, omega arith)
-    as_found (checked.Refused why) well = (one_of_more 41 read_numbers (refusal_numbered why).number well.0, well.1)
+    as_found (Ok None) well = (refl, omega arith)
+    as_found (Ok (Some form)) well = (every_write (in_form to (contents_in form image)) image move_numbers refl refl refl refl, omega arith)
+    as_found (Err why) well = (one_of_more 41 read_numbers (refusal_numbered why).number well.0, well.1)
 
 pub mend_is_answered : (image : List ℕ) → IsOneOf mend_numbers (mend_of image).told.number
 unfolding mend_of is_one_of pick
 mend_is_answered image = as_found (examined_of image)
   where
-    as_found : (found : Examined) → IsOneOf mend_numbers (mend_as image found).told.number
-    as_found examined.SizeWrong = refl
-    as_found examined.Accepted = refl
-    as_found examined.FormTwo = refl
-    as_found examined.Damaged = refl
+    as_found : (found : Result Examined MendError) → IsOneOf mend_numbers (mend_as image found).told.number
+    as_found (Err mending.SizeWrong) = refl
+    as_found (Ok examined.Accepted) = refl
+    as_found (Err mending.FormTwo) = refl
+    as_found (Ok examined.Damaged) = refl
 
 -- the larger part's reader
 module _ (image : List ℕ) where

@@ -17,7 +17,7 @@ use Rattle.flash.specs.declared.Region.TheVariants.{Main}
 use Rattle.flash.specs.Protection.{is_protected, may_change, first_kept}
 use Rattle.flash.specs.Regions.{main_start, place_from, place_of}
 use Rattle.flash.proofs.KeptLaws.{none_is_kept, protected_range_touches, open_range_touches_none}
-use Rattle.flash.proofs.RegionLaws.{main_is_located}
+use Rattle.flash.proofs.RegionLaws.{protected_is_told, main_is_located}
 use Rattle.session_act.specs.declared.Order.TheVariants.{EraseBetween}
 use Rattle.session_act.specs.Plans.{tells, orders}
 use Rattle.session_act.specs.Erasing.{range_erase_at, range_erase}
@@ -45,7 +45,8 @@ module _ (part : Part) (main_size : ℕ) (protection : List ℕ) (settings_bit :
     erase_at protected e =
         pick_false _ _ (le-ltb end start ordered)
         ∙ ap (range_erase_at start end) (place_in_main start (end - start + 1) (end + 1) (omega arith) (omega arith))
-        ∙ ap (λ (bit : Bool). pick bit (tells codes.invalid_range) (orders codes.success (EraseBetween start end))) e
+        ∙ ap (λ (bit : Bool). pick bit (tells codes.invalid_range) (orders codes.success (EraseBetween start end)))
+        (protected_is_told Main main_start start (end + 1) _ ∙ e)
 
     -- one protected sector among those that it would touch, from start's to end's, and nothing is done
     pub protected_erase_is_refused : (sector : ℕ) → start / sector_size ≤ sector → sector ≤ end / sector_size → is_protected protection sector ≡ true
@@ -74,5 +75,6 @@ module _ (part : Part) (main_size : ℕ) (protection : List ℕ) (settings_bit :
         by_cases (dec_lt (first_kept sector_size protection address (address + size)) (address + size))
         (λ h.
         ap (program_at part protection settings_bit address size memory) (place_in_main address size (address + size) refl there)
-        ∙ pick_false _ _ refl ∙ pick_false _ _ refl ∙ pick_true _ _ aligned ∙ pick_true _ _ (lt-ltb _ _ h))
+        ∙ pick_false _ _ refl ∙ pick_false _ _ refl ∙ pick_true _ _ aligned
+        ∙ pick_true _ _ (protected_is_told Main main_start address (address + size) _ ∙ lt-ltb _ _ h))
         (λ n. absurd (true≢false (sym (none_is_kept sector_size protection address (address + size) (omega arith) place l u) ∙ kept)))

@@ -5,10 +5,8 @@ use mathlib.Core.Bool.{Bool, true, false, not}
 use mathlib.Core.List.{List, [], ◌∷◌}
 use Prim.Native.Nat.{ℕ, ◌+◌, ◌-◌, ◌≤◌, ◌<◌}
 use native.Mathlib.Omega.{arith}
-use lib.Dec.{ltb}
 use lib.ListN.{length, get_or}
 use lib.Seq.{sets}
-use borrow.Author.Tests.{ltb-false}
 use Rattle.octets.specs.Alike.{all_are}
 use Rattle.octets.specs.Choice.{pick}
 use Rattle.octets.specs.Number.{part as octets}
@@ -25,9 +23,9 @@ use Rattle.flash.specs.declared.Region.TheVariants.{Main, Settings, Window, Outs
 use Rattle.flash.specs.Memory.{Memory, memory, bytes_at}
 use Rattle.flash.specs.Protection.{first_kept}
 use Rattle.flash.specs.Programming.{program_of}
-use Rattle.flash.specs.Regions.{main_start, lies_within, place_of}
+use Rattle.flash.specs.Regions.{main_start, lies_within, has_protected, place_of}
 use Rattle.flash.proofs.KeptLaws.{none_is_kept}
-use Rattle.flash.proofs.RegionLaws.{within_bounds}
+use Rattle.flash.proofs.RegionLaws.{within_bounds, none_is_told}
 use Rattle.flash.proofs.WordLaws.{program_on_blank}
 use Rattle.session_act.specs.declared.Planned.{Planned}
 use Rattle.session_act.specs.Orders.{carried_out}
@@ -42,7 +40,7 @@ module _ (part : Part) (main_size : ℕ) (protection : List ℕ) (settings_bit a
   abbrev plans : Planned
   plans = program part main_size protection settings_bit address size before
 
-  module _ (inside : is_outside place.region ≡ false) (flash : is_window place.region ≡ false) (aligned : is_aligned part.word_size address size ≡ true) (unprotected : place.is_protected ≡ false) where
+  module _ (inside : is_outside place.region ≡ false) (flash : is_window place.region ≡ false) (aligned : is_aligned part.word_size address size ≡ true) (unprotected : has_protected place ≡ false) where
     -- every byte of the range is looked at, and nothing else: not the data, and no byte beside it
     pub program_looks_at_range : plans
         ≡ pick (not (all_are 0xFF (bytes_at place size before))) (says FlashError) (orders codes.success (program_in place.offset size place.region))
@@ -74,17 +72,16 @@ module _ (part : Part) (main_size : ℕ) (shown : Shown) (protection : List ℕ)
   stored_in offset Outside = before
 
   stored : (bits : List ℕ) (offset : ℕ) (bytes : List ℕ) → offset + size ≤ length bytes
-      → ltb (first_kept part.sector_size bits offset (offset + size)) (offset + size) ≡ false → all_are 0xFF (octets offset size bytes) ≡ true
+      → offset + size ≤ first_kept part.sector_size bits offset (offset + size) → all_are 0xFF (octets offset size bytes) ≡ true
       → program_of part.sector_size bits offset (data_in size packet) bytes ≡ sets bytes offset (data_in size packet)
-  stored bits offset bytes there unkept blank =
-      let opened = ltb-false _ _ unkept in
+  stored bits offset bytes there opened blank =
       program_on_blank part.sector_size bits offset (data_in size packet) bytes (omega (arith, has, there)) small
       (λ place l u. none_is_kept part.sector_size bits offset (offset + size) opened place l (omega (arith, has, u)))
       (ap (λ (count : ℕ). all_are 0xFF (octets offset count bytes)) has ∙ blank)
 
   abbrev LeavesData : Place → Type 0
   LeavesData place =
-      place.is_protected ≡ false → all_are 0xFF (bytes_at place size before) ≡ true
+      has_protected place ≡ false → all_are 0xFF (bytes_at place size before) ≡ true
       → carried_out part shown protection packet before (program_in place.offset size place.region) ≡ stored_in place.offset place.region
 
   pub blank_becomes_data : length before.main ≡ main_size → length before.settings ≡ part.settings_size
@@ -95,11 +92,11 @@ module _ (part : Part) (main_size : ℕ) (shown : Shown) (protection : List ℕ)
       by_pick LeavesData (lies_within main_start main_size address size) _ _
       (λ y unkept blank.
       let b = within_bounds main_start main_size address size y in
-      ap (λ (bytes : List ℕ). memory bytes before.settings before.window) (stored protection (address - main_start) before.main (omega (arith, b, main)) unkept blank))
+      ap (λ (bytes : List ℕ). memory bytes before.settings before.window) (stored protection (address - main_start) before.main (omega (arith, b, main)) (none_is_told Main main_start (address - main_start) _ _ unkept) blank))
       (λ n. by_pick LeavesData (lies_within start part.settings_size address size) _ _
       (λ y unkept blank.
       let b = within_bounds start part.settings_size address size y in
       ap (λ (bytes : List ℕ). memory before.main bytes before.window)
-      (stored (shown.settings_protected ∷ []) (address - start) before.settings (omega (arith, b, settings)) unkept blank))
+      (stored (shown.settings_protected ∷ []) (address - start) before.settings (omega (arith, b, settings)) (none_is_told Settings start (address - start) _ _ unkept) blank))
       (λ o. by_pick LeavesData (lies_within part.window_start part.window_size address size) _ _
       (λ y unkept blank. refl) (λ v unkept blank. refl)))

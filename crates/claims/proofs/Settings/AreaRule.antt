@@ -15,8 +15,8 @@ use Rattle.octets.proofs.Parts.{length_part, part_there, from_next, parts_join, 
 use Rattle.octets.proofs.Searching.{pick_false, by_test}
 use Rattle.settings.specs.declared.Form.{Form}
 use Rattle.settings.specs.declared.Form.TheVariants.{One, Two}
-use Rattle.settings.specs.declared.Settings.{Settings}
-use Rattle.settings.specs.declared.Contents.{Contents}
+use Rattle.settings.specs.Held.{Settings}
+use Rattle.settings.specs.Held.{Contents}
 use Rattle.settings.specs.Layout.{form1, layout_of}
 use Rattle.settings.specs.Bodies.{bodies_of, contents_of}
 use Rattle.settings.specs.Fields.{fields_read, zero_at}

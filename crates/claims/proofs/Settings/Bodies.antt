@@ -6,7 +6,7 @@ use lib.ListN.{length, get_or, drop}
 use Rattle.octets.specs.Number.{bytes_of, part, number_at}
 use Rattle.octets.proofs.Numbers.{length-bytes_of, number_of_bytes}
 use Rattle.octets.proofs.Parts.{part_there, from_next}
-use Rattle.settings.specs.declared.Settings.{Settings}
+use Rattle.settings.specs.Held.{Settings}
 use Rattle.settings.specs.Layout.{form1, offset_of, sum_of}
 use Rattle.settings.specs.Bodies.{values_of, bodies_of, shown_in, settings_in}
 use Rattle.claims.specs.Held.{Held}

@@ -7,8 +7,8 @@ use lib.Dec.{eqb}
 use lib.ListN.{length}
 use Rattle.octets.specs.Choice.{pick}
 use Rattle.parts.specs.declared.Part.{Part}
-use Rattle.settings.specs.declared.Settings.{Settings}
-use Rattle.settings.specs.declared.Contents.{Contents}
+use Rattle.settings.specs.Held.{Settings}
+use Rattle.settings.specs.Held.{Contents}
 use Rattle.settings.specs.declared.Form.TheVariants.{One, Two}
 use Rattle.settings.specs.Values.{is_allowed, no_name}
 use Rattle.parts.specs.Parts.{mspm0}

@@ -2,7 +2,7 @@
 use mathlib.Core.Path.{◌≡◌, sym, ◌∙◌}
 use mathlib.Core.List.{[], ◌++◌, append-nil}
 use lib.ListN.{length, get_or, drop}
-use Rattle.settings.specs.declared.Settings.{Settings}
+use Rattle.settings.specs.Held.{Settings}
 use Rattle.settings.specs.Layout.{form1}
 use Rattle.settings.specs.Bodies.{bodies_of}
 use Rattle.settings.specs.Fields.{fields_read}

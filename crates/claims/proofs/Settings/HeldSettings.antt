@@ -1,4 +1,5 @@
 -- Settings that are read of bytes can be held by a struct of the code.
+use Rattle.std.specs.Prelude.{Some, None, Ok, Err}
 use mathlib.Core.Path.{◌≡◌, refl, sym, ap, subst, ◌∙◌}
 use mathlib.Core.List.{List, ◌++◌}
 use Prim.Native.Nat.{ℕ, ◌+◌, ◌^◌, ◌≤◌, ◌<◌}
@@ -13,13 +14,11 @@ use Rattle.octets.proofs.Parts.{length_part, each_part, each_append, each_replic
 use Rattle.octets.proofs.Searching.{pick_true, pick_false, by_pick}
 use Rattle.octets.proofs.StoreLaws.{stored_front}
 use Rattle.parts.specs.declared.Part.{Part}
-use Rattle.settings.specs.declared.Settings.{Settings}
-use Rattle.settings.specs.declared.Kept.{Kept}
+use Rattle.settings.specs.Held.{Settings}
+use Rattle.settings.specs.Held.{Kept}
 use Rattle.settings.specs.declared.Form.{Form}
 use Rattle.settings.specs.declared.Form.TheVariants.{One, Two}
 use Rattle.settings.specs.declared.Forms.TheVariants.{Both}
-use Rattle.settings.specs.declared.Checked.{Checked}
-use Rattle.settings.specs.declared.Checked.TheVariants as checked
 use Rattle.settings.specs.Values.{no_settings, no_name}
 use Rattle.settings.specs.Layout.{form1, image_size, offset_of, sum_of}
 use Rattle.settings.specs.Table.{bodies_at, bodies_end_lem}
@@ -33,7 +32,7 @@ use Rattle.settings_large.specs.Reader as larger
 use Rattle.settings_large.proofs.PassingLaws as Larger
 use Rattle.session.specs.Starting.{settings_read}
 use Rattle.c_records.specs.Records.{record_size}
-use Rattle.settings.specs.Reader.{checked_of, read_as, read_of}
+use Rattle.settings.specs.Reader.{Checked, checked_of, read_as, read_of}
 use Rattle.settings.proofs.BodyLaws.{bodies_begin, fields_there}
 use Rattle.settings.proofs.ReaderLaws.{refuses}
 use Rattle.claims.specs.Held.{Bytes, HeldShown, Held, HeldKept, HeldContents}
@@ -96,9 +95,9 @@ module _ (image : List ℕ) (each : (k : ℕ) → get_or image k 0 < 256) (size 
 module _ (image : List ℕ) (each : (k : ℕ) → get_or image k 0 < 256) where
   found_is_held : (found : Checked) → Good Both image found → (read_as image found).number ≡ 0 → HeldContents (read_as image found).contents
   unfolding Good
-  found_is_held checked.Blank good e = blank_contents_held
-  found_is_held (checked.Written form) good e = contents_held image each good.0.size form
-  found_is_held (checked.Refused refusal) good e = absurd (eqb-false _ _ (refuses refusal) e)
+  found_is_held (Ok None) good e = blank_contents_held
+  found_is_held (Ok (Some form)) good e = contents_held image each good.0.size form
+  found_is_held (Err refusal) good e = absurd (eqb-false _ _ (refuses refusal) e)
 
   pub read_is_held : (read_of image).number ≡ 0 → HeldContents (read_of image).contents
   unfolding read_of
@@ -156,9 +155,9 @@ module _ (board : Part) (long : record_size board ≡ 118) where
   pub larger_found_is_held : (image : List ℕ) → ((k : ℕ) → get_or image k 0 < 256) → (found : Checked) → Larger.Good image found → (larger.read_as image found).number ≡ 0
       → HeldKept board (larger.read_as image found).contents.settings
   unfolding Larger.Good
-  larger_found_is_held image each checked.Blank good e = blank_kept_held
-  larger_found_is_held image each (checked.Written form) passed e = larger_held image each (omega (arith, passed.size))
-  larger_found_is_held image each (checked.Refused refusal) good e = absurd (eqb-false _ _ (refuses refusal) e)
+  larger_found_is_held image each (Ok None) good e = blank_kept_held
+  larger_found_is_held image each (Ok (Some form)) passed e = larger_held image each (omega (arith, passed.size))
+  larger_found_is_held image each (Err refusal) good e = absurd (eqb-false _ _ (refuses refusal) e)
 
 pub taken_is_held : (board : Part) (image : List ℕ) → ((k : ℕ) → get_or image k 0 < 256) → length image ≡ board.settings_size
     → (settings_read image).number ≡ 0 → HeldKept board (settings_read image).settings

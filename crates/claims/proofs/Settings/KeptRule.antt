@@ -12,8 +12,8 @@ use Rattle.octets.proofs.Parts.{each_part}
 use Rattle.octets.proofs.Searching.{pick_true, pick_false}
 use Rattle.octets.proofs.StoreLaws.{stored_front}
 use Rattle.parts.specs.declared.Part.{Part}
-use Rattle.settings.specs.declared.Settings.{Settings}
-use Rattle.settings.specs.declared.Kept.{Kept}
+use Rattle.settings.specs.Held.{Settings}
+use Rattle.settings.specs.Held.{Kept}
 use Rattle.settings.specs.Layout.{form1, offset_of, sum_of}
 use Rattle.settings.specs.Bodies.{values_of, numbers_of, bodies_with, bodies_of, settings_in}
 use Rattle.settings.specs.Fields.{fields_read}

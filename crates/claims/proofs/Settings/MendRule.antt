@@ -1,6 +1,7 @@
 -- T-11, Mend a settings image: "The reader accepts every result. An image the reader accepts, blank included, comes back unchanged with four zeros.",
 -- "Each number equals the count of differing places there."
 -- `mend_of` is what `settings_mend::mend` is proved to do, `mend_from_c` what `c_records::mend_image` is.
+use Rattle.std.specs.Prelude.{Result, Ok, Err}
 use mathlib.Core.Path.{◌≡◌, refl, sym, ap, ap₂, ◌∙◌}
 use mathlib.Core.Bool.{true, false, not}
 use mathlib.Core.List.{List, [], ◌∷◌, ◌++◌, append_assoc, append-nil}
@@ -15,9 +16,9 @@ use Rattle.octets.proofs.Parts.{length_part, parts_join, part_of_part, each_part
 use Rattle.octets.proofs.Searching.{by_pick, by_test, pick_true}
 use Rattle.octets.proofs.AlikeLaws.{same_differ_nowhere}
 use Rattle.settings.specs.declared.Shown.{Shown}
-use Rattle.settings.specs.declared.Settings.{Settings}
+use Rattle.settings.specs.Held.{Settings}
 use Rattle.settings.specs.declared.Form.TheVariants.{One, Two}
-use Rattle.settings.specs.declared.Contents.{Contents}
+use Rattle.settings.specs.Held.{Contents}
 use Rattle.settings.specs.Layout.{form1, image_size, table_of, pairs_of, offset_of, sum_of}
 use Rattle.settings.specs.Values.{is_allowed, no_name}
 use Rattle.settings.specs.Bodies.{values_of, bodies_of, contents_of, shown_in, settings_in}
@@ -28,6 +29,8 @@ use Rattle.settings.proofs.AgainLaws.{number_again, numbers_made, read_is_allowe
 use Rattle.settings.proofs.PassingLaws.{Passed}
 use Rattle.settings_mend.specs.declared.Examined.{Examined}
 use Rattle.settings_mend.specs.declared.Examined.TheVariants as examined
+use Rattle.settings_mend.specs.declared.MendError.{MendError}
+use Rattle.settings_mend.specs.declared.MendError.TheVariants as mending
 use Rattle.settings_mend.specs.Examining.{examined_of}
 use Rattle.settings_mend.specs.Mending.{allowed_or, mended_values, mended_bodies, mended, changes_of, no_changes, told, mend_left, mend_as, mend_of}
 use Rattle.c_records.specs.OneNumber.{refusal}
@@ -135,11 +138,11 @@ module _ (image : List ℕ) (each : (k : ℕ) → get_or image k 0 < 256) (size 
 
 module _ (image : List ℕ) where
   -- what is found of an image holds of it
-  unfoldable So : Examined → Type 0
-  So examined.SizeWrong = Unit
-  So examined.Accepted = (read_of image).number ≡ 0
-  So examined.FormTwo = Unit
-  So examined.Damaged = length image ≡ image_size
+  unfoldable So : Result Examined MendError → Type 0
+  So (Err mending.SizeWrong) = Unit
+  So (Ok examined.Accepted) = (read_of image).number ≡ 0
+  So (Err mending.FormTwo) = Unit
+  So (Ok examined.Damaged) = length image ≡ image_size
 
   examined_is_so : So (examined_of image)
   unfolding So examined_of is_accepted
@@ -154,11 +157,11 @@ module _ (image : List ℕ) where
   none_changed =
       rw (same_differ_nowhere (part 0 52 image), same_differ_nowhere (part 126 894 image), same_differ_nowhere (part 100 6 image), same_differ_nowhere (part 1020 4 image))
 
-  found_counts : (found : Examined) → (mend_as image found).told.changes ≡ changes_of image (mend_as image found).image
-  found_counts examined.SizeWrong = sym none_changed
-  found_counts examined.Accepted = sym none_changed
-  found_counts examined.FormTwo = sym none_changed
-  found_counts examined.Damaged = refl
+  found_counts : (found : Result Examined MendError) → (mend_as image found).told.changes ≡ changes_of image (mend_as image found).image
+  found_counts (Err mending.SizeWrong) = sym none_changed
+  found_counts (Ok examined.Accepted) = sym none_changed
+  found_counts (Err mending.FormTwo) = sym none_changed
+  found_counts (Ok examined.Damaged) = refl
 
   -- each of the four numbers is the count of the places that differ there
   pub counts_are_differences : (mend_of image).told.changes ≡ changes_of image (mend_of image).image
@@ -166,12 +169,12 @@ module _ (image : List ℕ) where
   counts_are_differences = found_counts (examined_of image)
 
   module _ (each : (k : ℕ) → get_or image k 0 < 256) where
-    found_reads : (found : Examined) → So found → (mend_as image found).told.number ≡ 0 → (read_of (mend_as image found).image).number ≡ 0
+    found_reads : (found : Result Examined MendError) → So found → (mend_as image found).told.number ≡ 0 → (read_of (mend_as image found).image).number ≡ 0
     unfolding So
-    found_reads examined.SizeWrong so e = absurd (omega (arith, e))
-    found_reads examined.Accepted so e = so
-    found_reads examined.FormTwo so e = absurd (omega (arith, e))
-    found_reads examined.Damaged so e = ap (λ told. told.number) (mended_is_accepted image each so)
+    found_reads (Err mending.SizeWrong) so e = absurd (omega (arith, e))
+    found_reads (Ok examined.Accepted) so e = so
+    found_reads (Err mending.FormTwo) so e = absurd (omega (arith, e))
+    found_reads (Ok examined.Damaged) so e = ap (λ told. told.number) (mended_is_accepted image each so)
 
     -- "The reader accepts every result."
     pub every_result_is_accepted : (mend_of image).told.number ≡ 0 → (read_of (mend_of image).image).number ≡ 0

@@ -1,6 +1,7 @@
 -- T-09: "We need the move from 1 to 2 and back: forth and back gives the first image byte for byte, and back and forth likewise. A blank image
 -- moves to itself both ways."
 -- `moved_to_two` and `moved_to_one` are what `settings::to_form_2` and `settings::to_form_1` are proved to do.
+use Rattle.std.specs.Prelude.{Some, None, Ok, Err}
 use mathlib.Core.Path.{◌≡◌, refl, sym, ap, subst, ◌∙◌}
 use mathlib.Core.Bool.{Bool, true, false, true≢false, false≢true, not}
 use mathlib.Core.List.{List}
@@ -17,15 +18,13 @@ use Rattle.settings.specs.declared.Form.{Form}
 use Rattle.settings.specs.declared.Form.TheVariants.{One, Two}
 use Rattle.settings.specs.declared.Forms.{Forms}
 use Rattle.settings.specs.declared.Forms.TheVariants.{Both, OnlyOne, OnlyTwo}
-use Rattle.settings.specs.declared.Contents.{Contents}
-use Rattle.settings.specs.declared.Checked.{Checked}
-use Rattle.settings.specs.declared.Checked.TheVariants as checked
+use Rattle.settings.specs.Held.{Contents}
 use Rattle.settings.specs.Layout.{image_size}
 use Rattle.settings.specs.Values.{is_allowed, no_name}
 use Rattle.settings.specs.Bodies.{name_in, contents_in}
 use Rattle.settings.specs.Image.{image_of}
 use Rattle.settings.specs.Answers.{numbered, WriteLeft, write_left, MoveLeft, move_left}
-use Rattle.settings.specs.Reader.{is_blank, checked_of, read_as, read_of}
+use Rattle.settings.specs.Reader.{Checked, is_blank, checked_of, read_as, read_of}
 use Rattle.settings.specs.Writer.{name_fits, write_of}
 use Rattle.settings.specs.Moves.{in_form, moved_by, move_as, move_of, moved_to_one, moved_to_two}
 use Rattle.settings.proofs.ReaderLaws.{refuses}
@@ -59,9 +58,9 @@ unfolding move_of
 refused_move_keeps from to image = as_found (checked_of from image)
   where
     as_found : (found : Checked) → ((move_as to image found).told.number ≡ 0 → ⊥) → (move_as to image found).image ≡ image
-    as_found checked.Blank h = refl
-    as_found (checked.Written form) h = writer_keeps (in_form to (contents_in form image)) image h
-    as_found (checked.Refused refusal) h = refl
+    as_found (Ok None) h = refl
+    as_found (Ok (Some form)) h = writer_keeps (in_form to (contents_in form image)) image h
+    as_found (Err refusal) h = refl
 
 -- an image that is blank is 1,024 times 0xFF
 blank_is : (image : List ℕ) → is_blank image ≡ true → image ≡ replicate image_size 0xFF
@@ -162,14 +161,14 @@ module _ (form : Form) (image : List ℕ) (each : (k : ℕ) → get_or image k 0
 
   found_returns : (found : Checked) → Good (starts form) image found → checked_of (starts form) image ≡ found → Returns (moved form image)
   unfolding Good move_of
-  found_returns checked.Blank blank is e =
+  found_returns (Ok None) blank is e =
       let whole = blank_is image blank in
       ap (λ (bytes : List ℕ). moved (other form) (moved form bytes).image) whole
       ∙ ap (λ left. moved (other form) left.image) (blank_moves_to_itself (starts form) (other form))
       ∙ blank_moves_to_itself (starts (other form)) (other (other form))
       ∙ ap (move_left (numbered 0 0)) (sym whole)
-  found_returns (checked.Written taken) good is e = passed_returns (subst (λ (f : Form). Passed f image) (only_own form taken good.1) good.0) e
-  found_returns (checked.Refused refusal) good is e =
+  found_returns (Ok (Some taken)) good is e = passed_returns (subst (λ (f : Form). Passed f image) (only_own form taken good.1) good.0) e
+  found_returns (Err refusal) good is e =
       absurd (eqb-false _ _ (refuses refusal) (sym (ap (λ found. (move_as (other form) image found).told.number) is) ∙ e))
 
   pub move_returns : Returns (moved form image)
@@ -194,10 +193,10 @@ module _ (image : List ℕ) (each : (k : ℕ) → get_or image k 0 < 256) (accep
   found_is_written : (form : Form) (found : Checked) → Good Both image found → (read_as image found).number ≡ 0 → is_blank image ≡ false
       → (read_as image found).contents.form ≡ form → Passed form image × ((read_as image found).contents ≡ contents_in form image)
   unfolding Good
-  found_is_written form checked.Blank blank e written is = absurd (true≢false (sym blank ∙ written))
-  found_is_written form (checked.Written told) good e written is =
+  found_is_written form (Ok None) blank e written is = absurd (true≢false (sym blank ∙ written))
+  found_is_written form (Ok (Some told)) good e written is =
       subst (λ (f : Form). Passed f image × (contents_in told image ≡ contents_in f image)) is (good.0, refl)
-  found_is_written form (checked.Refused refusal) good e written is = absurd (eqb-false _ _ (refuses refusal) e)
+  found_is_written form (Err refusal) good e written is = absurd (eqb-false _ _ (refuses refusal) e)
 
   is_written_lem : (form : Form) → is_blank image ≡ false → read.form ≡ form → Passed form image × (read ≡ contents_in form image)
   unfolding read_of

@@ -1,6 +1,7 @@
 -- Demand 2: "The settings image is read and written by one rule: read after write gives the same settings, and write after read gives the same
 -- bytes unless the image was blank." In both forms, T-09.
 -- `read_of` and `write_of` are what `settings::read` and `settings::write` are proved to do.
+use Rattle.std.specs.Prelude.{Some, None, Ok, Err}
 use mathlib.Core.Path.{◌≡◌, refl, sym, ap, ◌∙◌}
 use mathlib.Core.Bool.{true, false, true≢false}
 use mathlib.Core.List.{List}
@@ -14,15 +15,13 @@ use Rattle.octets.proofs.AlikeLaws.{replicate_all_are}
 use Rattle.settings.specs.declared.Form.{Form}
 use Rattle.settings.specs.declared.Form.TheVariants.{One}
 use Rattle.settings.specs.declared.Forms.TheVariants.{Both}
-use Rattle.settings.specs.declared.Contents.{Contents}
-use Rattle.settings.specs.declared.Checked.{Checked}
-use Rattle.settings.specs.declared.Checked.TheVariants as checked
+use Rattle.settings.specs.Held.{Contents}
 use Rattle.settings.specs.Layout.{image_size}
 use Rattle.settings.specs.Bodies.{contents_in}
 use Rattle.settings.specs.Values.{is_allowed, no_name, blank_settings, blank_contents, no_contents}
 use Rattle.settings.specs.Image.{image_of}
 use Rattle.settings.specs.Answers.{accepted, write_left}
-use Rattle.settings.specs.Reader.{is_blank, checked_of, read_as, read_of}
+use Rattle.settings.specs.Reader.{Checked, is_blank, checked_of, read_as, read_of}
 use Rattle.settings.specs.Writer.{name_fits, write_of}
 use Rattle.settings.proofs.ReaderLaws.{refuses}
 use Rattle.claims.specs.Held.{Held, HeldContents}
@@ -61,9 +60,9 @@ module _ (image : List ℕ) (each : (k : ℕ) → get_or image k 0 < 256) (area 
   found_is_written : (found : Checked) → Good Both image found → (read_as image found).number ≡ 0 → is_blank image ≡ false
       → write_of (read_as image found).contents area ≡ write_left 0 image
   unfolding Good
-  found_is_written checked.Blank blank e written = absurd (true≢false (sym blank ∙ written))
-  found_is_written (checked.Written form) good e written = passed_is_written form good.0
-  found_is_written (checked.Refused refusal) good e written = absurd (eqb-false _ _ (refuses refusal) e)
+  found_is_written (Ok None) blank e written = absurd (true≢false (sym blank ∙ written))
+  found_is_written (Ok (Some form)) good e written = passed_is_written form good.0
+  found_is_written (Err refusal) good e written = absurd (eqb-false _ _ (refuses refusal) e)
 
   -- writing what was read gives the same bytes
   pub write_after_read : (read_of image).number ≡ 0 → is_blank image ≡ false → write_of (read_of image).contents area ≡ write_left 0 image

@@ -18,10 +18,10 @@ use Rattle.octets.proofs.AlikeLaws.{all_are_replicate, replicate_all_are}
 use Rattle.checksum.specs.Checksum.{checksum_of}
 use Rattle.checksum.proofs.Laws.{checksum_of_fits}
 use Rattle.settings.specs.declared.Shown.{Shown}
-use Rattle.settings.specs.declared.Settings.{Settings}
+use Rattle.settings.specs.Held.{Settings}
 use Rattle.settings.specs.declared.Form.{Form}
 use Rattle.settings.specs.declared.Form.TheVariants.{One, Two}
-use Rattle.settings.specs.declared.Contents.{Contents}
+use Rattle.settings.specs.Held.{Contents}
 use Rattle.settings.specs.Layout.{layout_of, bodies_end, offset_of, sum_of, table_of, pairs_of}
 use Rattle.settings.specs.Table.{bodies_at, table_ends, filler_at, bodies_end_lem}
 use Rattle.settings.specs.Entries.{differing_entry}

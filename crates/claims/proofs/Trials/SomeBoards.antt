@@ -10,13 +10,13 @@ use Rattle.octets.specs.Choice.{pick}
 use Rattle.octets.specs.Number.{number_of, is_multiple}
 use Rattle.octets.proofs.Parts.{each_cons, each_replicate}
 use Rattle.parts.specs.Parts.{mspm0}
-use Rattle.settings.specs.declared.Settings.{Settings}
-use Rattle.settings.specs.declared.Kept.{Kept}
+use Rattle.settings.specs.Held.{Settings}
+use Rattle.settings.specs.Held.{Kept}
 use Rattle.settings.specs.Kept.{filled_up, kept_of}
 use Rattle.settings.specs.Values.{is_allowed, no_name, blank_settings}
 use Rattle.settings.specs.declared.Form.{Form}
 use Rattle.settings.specs.declared.Form.TheVariants.{One, Two}
-use Rattle.settings.specs.declared.Contents.{Contents}
+use Rattle.settings.specs.Held.{Contents}
 use Rattle.settings.specs.Bodies.{contents_of}
 use Rattle.settings.specs.Answers.{SettingsTold, accepted, settings_only}
 use Rattle.settings.specs.Reader.{read_of}

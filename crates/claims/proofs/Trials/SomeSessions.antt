@@ -20,7 +20,7 @@ use Rattle.line.specs.Replies.{reply_bytes, Sent}
 use Rattle.line.proofs.ReplyLaws.{message_bytes}
 use Rattle.session_state.specs.declared.Standing.{Standing}
 use Rattle.session_state.specs.Phases.{most_sleep, at_start}
-use Rattle.settings.specs.declared.Settings.{Settings}
+use Rattle.settings.specs.Held.{Settings}
 use Rattle.settings.specs.Kept.{filled_up}
 use Rattle.settings.specs.Answers.{SettingsTold}
 use Rattle.flash.specs.Memory.{Memory, memory}

@@ -9,7 +9,7 @@ use Rattle.octets.specs.Number.{number_of, bytes_of, part}
 use Rattle.parts.specs.Parts.{mspm0}
 use Rattle.line.specs.declared.Reply.TheVariants.{Bytes}
 use Rattle.line.specs.Replies.{core_reply, reply_bytes}
-use Rattle.settings.specs.declared.Settings.{Settings}
+use Rattle.settings.specs.Held.{Settings}
 use Rattle.settings.specs.Image.{image_of}
 use Rattle.settings.specs.Answers.{Numbered, SettingsTold}
 use Rattle.flash.specs.Memory.{memory}

@@ -1,5 +1,6 @@
 -- A board whose settings are blank is read by anybody: its password is public, settings with readout on can be written, and after one more start
 -- Read back tells what MAIN holds.
+use Rattle.std.specs.Prelude.{None}
 use mathlib.Core.Path.{◌≡◌, refl, sym, ap, ap₂, ◌∙◌}
 use mathlib.Core.Bool.{Bool, true, false, not}
 use mathlib.Core.List.{List, [], ◌∷◌, ◌++◌}
@@ -31,7 +32,7 @@ use Rattle.line.specs.Commands.{is_silent, length_fits, guarded_of, guarded_in, 
 use Rattle.session_state.specs.declared.Standing.{Standing}
 use Rattle.session_state.specs.Phases.{counts_fit, is_valid}
 use Rattle.session_state.specs.Waits.{is_idle_too_long, command_idles, pass_time}
-use Rattle.settings.specs.declared.Settings.{Settings}
+use Rattle.settings.specs.Held.{Settings}
 use Rattle.settings.specs.Values.{is_allowed, blank_settings}
 use Rattle.settings.specs.Layout.{image_size}
 use Rattle.settings.specs.Kept.{kept_of, blank_kept}
@@ -42,8 +43,8 @@ use Rattle.flash.specs.declared.Place.{Place}
 use Rattle.flash.specs.declared.Region.{Region}
 use Rattle.flash.specs.declared.Region.TheVariants as region
 use Rattle.flash.specs.Memory.{memory, bytes_in, bytes_at}
-use Rattle.flash.specs.Regions.{is_main_size, lies_within, place_of}
-use Rattle.flash.specs.Protection.{may_change, first_kept}
+use Rattle.flash.specs.Regions.{is_main_size, lies_within, has_protected, place_of}
+use Rattle.flash.specs.Protection.{may_change, first_kept, found_before}
 use Rattle.flash.specs.Programming.{program_of}
 use Rattle.flash.proofs.WordLaws.{program_on_blank}
 use Rattle.session_judge.specs.declared.Effect.TheVariants.{Perform}
@@ -196,8 +197,8 @@ unfolding first_kept may_change pick
 none_kept = none_found _ image_size _ 0 image_size (λ k l u. ap (λ (bit : Bool). not (not bit)) (none_protected 1 (k / mspm0.sector_size)))
 
 settings_place : place_of mspm0 main_size blank_kept.protection blank_settings.shown.settings_protected mspm0.settings_start image_size
-    ≡ record { region = region.Settings; offset = 0; is_protected = false; first_protected = 0 }
-unfolding place_of lies_within pick
+    ≡ record { region = region.Settings; offset = 0; first_protected = None }
+unfolding place_of lies_within found_before pick
 settings_place = rw none_kept refl
 
 all_blank : all_are 0xFF (part 0 image_size (replicate image_size 0xFF)) ≡ true
@@ -222,7 +223,7 @@ module _ (main : List ℕ) (size : length main ≡ main_size) where
   program_is_planned =
       blank_program_is_obeyed mspm0 main_size blank_kept.protection blank_settings.shown.settings_protected mspm0.settings_start image_size (blanked main)
       (ap (λ (place : Place). is_outside place.region) settings_place) (ap (λ (place : Place). is_window place.region) settings_place) refl
-      (ap (λ (place : Place). place.is_protected) settings_place)
+      (ap has_protected settings_place)
       (ap (λ (place : Place). all_are 0xFF (bytes_at place image_size (blanked main))) settings_place ∙ all_blank)
       ∙ ap (λ (place : Place). orders codes.success (program_in place.offset image_size place.region)) settings_place
 

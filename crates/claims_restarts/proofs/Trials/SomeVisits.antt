@@ -11,7 +11,7 @@ use Rattle.octets.proofs.Searching.{pick_true, pick_false, by_test}
 use Rattle.octets.proofs.AlikeLaws.{equal_are_same}
 use Rattle.parts.specs.Parts.{mspm0}
 use Rattle.session_state.specs.Phases.{most_sleep, is_unlocked}
-use Rattle.settings.specs.declared.Settings.{Settings}
+use Rattle.settings.specs.Held.{Settings}
 use Rattle.settings.specs.Values.{blank_settings}
 use Rattle.settings.specs.Kept.{filled_up}
 use Rattle.settings.specs.Answers.{settings_only}

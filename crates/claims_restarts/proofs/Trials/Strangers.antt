@@ -7,7 +7,7 @@ use lib.ListN.{length, get_or}
 use Rattle.octets.specs.Number.{bytes_of}
 use Rattle.parts.specs.Parts.{mspm0}
 use Rattle.line.specs.Codes.{length_limit, unlock}
-use Rattle.settings.specs.declared.Settings.{Settings}
+use Rattle.settings.specs.Held.{Settings}
 use Rattle.claims.specs.TwoBoards.{Images}
 use Rattle.claims.specs.Trials.{packet_of, sends, connects, unlocks, two_guesses, three_guesses}
 use Rattle.claims.proofs.Trials.Framing.{core_there}

@@ -1,9 +1,18 @@
 -- `checksum::lanes::lane_in` meets its contract: bytes go in one by one as their number does at once.
-use mathlib.Core.Path.{sym}
-use Rattle.checksum.proofs.Parts.{as_number}
+use Rattle.std.proofs.Common.{rules}
+use mathlib.Core.Path.{◌≡◌, ◌∙◌}
+use Prim.Native.Nat.{ℕ, ◌<◌}
+use native.Mathlib.Omega.{arith}
+use lib.Bits.{bit_xor}
+use lib.ListN.{length, get_or}
+use Rattle.octets.specs.Number.{number_of}
+use Rattle.checksum.proofs.Chunks.{eight_read, eight_on}
 use Rattle.checksum.proofs.lanes.lane_in.Goals as goal
 
 pub returns : goal.returns
 returns c =
-    rw (c.long_bits.ensures, c.long_with.ensures)
-    (sym (as_number c.args.bytes.now (λ k. (c.type_inv.bytes k).fits) 8 _ c.args.at c.requires))
+    let long = c.args.long in
+    let size : length long ≡ 8 = search rules in
+    let small : (k : ℕ) → get_or long k 0 < 256 = search rules in
+    let number : c.from_le_bytes.result ≡ number_of long = c.from_le_bytes.ensures ∙ eight_read long (omega (arith, size)) in
+    rw (c.long_bits.ensures, c.from.ensures, number) (eight_on (bit_xor c.args.sum c.args.lane) long size small)

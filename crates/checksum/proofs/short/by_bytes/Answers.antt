@@ -5,18 +5,14 @@ use Rattle.checksum.specs.Checksum.{byte_on}
 use Rattle.checksum.proofs.Parts.{byte_turn, byte_end}
 use Rattle.checksum.proofs.short.by_bytes.Goals as goal
 
-pub loop-at-preserved : goal.loop-at-preserved
+pub loop-byte-preserved : goal.loop-byte-preserved
 unfolding byte_on
-loop-at-preserved c =
-    let turn = c.loop-at in
-    let bytes = c.args.bytes.now in (
-      omega arith,
-      rw (c.eight_bits-sum.ensures, c.byte_at.ensures)
-          (sym (byte_turn turn.sum turn.at bytes (omega arith)) ∙ turn.invariant.1),
-    )
+loop-byte-preserved c =
+    let turn = c.loop-byte in
+    rw (c.eight_bits-sum.ensures, c.from.ensures)
+    (sym (byte_turn turn.sum turn.byte-index c.args.bytes.now (omega arith)) ∙ turn.invariant)
 
 pub returns : goal.returns
 returns c =
-    let end = c.loop-at in
-    let bytes = c.args.bytes.now in
-    sym (byte_end end.sum end.at bytes end.invariant.0 (omega arith)) ∙ end.invariant.1
+    let end = c.loop-byte in
+    sym (byte_end end.sum end.byte-index c.args.bytes.now (omega arith) (omega arith)) ∙ end.invariant

@@ -17,7 +17,7 @@ use Rattle.octets.proofs.Searching.{pick_both}
 use Rattle.octets.proofs.AlikeLaws.{all_are_replicate, replicate_all_are}
 use Rattle.checksum.specs.Checksum.{checksum_of}
 use Rattle.settings.specs.declared.Form.TheVariants.{Two}
-use Rattle.settings.specs.declared.Kept.{Kept}
+use Rattle.settings.specs.Held.{Kept}
 use Rattle.settings.specs.Values.{is_allowed}
 use Rattle.settings.specs.Layout.{large, checksum_at, bodies_end, offset_of, sum_of, table_of, pairs_of}
 use Rattle.settings.specs.Table.{large_bodies_end}
@@ -27,7 +27,7 @@ use Rattle.settings.specs.Kept.{kept_read, kept_bodies}
 use Rattle.settings.specs.Image.{sealed}
 use Rattle.settings.specs.Reader.{checksum_differs, is_form}
 use Rattle.settings.proofs.AgainLaws.{number_again, long_again}
-use Rattle.settings_large.specs.declared.LargeContents.{LargeContents}
+use Rattle.settings_large.specs.Contents.{LargeContents}
 use Rattle.settings_large.specs.Contents.{contents_of, kept_in, contents_in}
 use Rattle.settings_large.specs.Image.{large_filler, front_with, image_of}
 use Rattle.settings_large.specs.Reader.{filler_differs, value_not_allowed}

@@ -1,5 +1,7 @@
 -- Demand 2: "read after write gives the same settings, and write after read gives the same bytes unless the image was blank." On the larger part, T-10.
 -- `read_of` and `write_of` are what `settings_large::read` and `settings_large::write` are proved to do.
+use Rattle.settings.specs.Reader.{Checked}
+use Rattle.std.specs.Prelude.{Some, None, Ok, Err}
 use mathlib.Core.Path.{◌≡◌, refl, sym, ap, ◌∙◌}
 use mathlib.Core.Bool.{true, false, true≢false, not}
 use mathlib.Core.List.{List}
@@ -16,13 +18,11 @@ use Rattle.octets.proofs.AlikeLaws.{replicate_all_are}
 use Rattle.parts.specs.Parts.{am13e230x}
 use Rattle.settings.specs.declared.Form.{Form}
 use Rattle.settings.specs.declared.Form.TheVariants.{Two}
-use Rattle.settings.specs.declared.Checked.{Checked}
-use Rattle.settings.specs.declared.Checked.TheVariants as checked
 use Rattle.settings.specs.Values.{is_allowed, no_name}
 use Rattle.settings.specs.Layout.{offset_of, sum_of}
 use Rattle.settings.specs.Answers.{WriteLeft, write_left}
 use Rattle.settings.proofs.ReaderLaws.{refuses}
-use Rattle.settings_large.specs.declared.LargeContents.{LargeContents}
+use Rattle.settings_large.specs.Contents.{LargeContents}
 use Rattle.settings_large.specs.Contents.{contents_of, contents_in, blank_contents, no_contents}
 use Rattle.settings_large.specs.Image.{large_size, image_of}
 use Rattle.settings_large.specs.Reader.{accepted, checked_of, read_as, read_of}
@@ -63,15 +63,15 @@ module _ (c : LargeContents) (held : HeldLarge c) (form : c.form ≡ Two) (allow
 module _ (image : List ℕ) (each : (k : ℕ) → get_or image k 0 < 256) where
   name_is_held : (found : Checked) → Good image found → (read_as image found).number ≡ 0 → Bytes 64 (read_as image found).contents.name
   unfolding Good no_name offset_of sum_of
-  name_is_held checked.Blank good e = record { size = refl; each = each_replicate 64 0xFF (omega arith) }
-  name_is_held (checked.Written form) passed e = part_held image each 158 64 (omega (arith, passed.size))
-  name_is_held (checked.Refused refusal) good e = absurd (eqb-false _ _ (refuses refusal) e)
+  name_is_held (Ok None) good e = record { size = refl; each = each_replicate 64 0xFF (omega arith) }
+  name_is_held (Ok (Some form)) passed e = part_held image each 158 64 (omega (arith, passed.size))
+  name_is_held (Err refusal) good e = absurd (eqb-false _ _ (refuses refusal) e)
 
   -- what the reader gives has form 2, and can be held
   form_is_two : (found : Checked) → (read_as image found).contents.form ≡ Two
-  form_is_two checked.Blank = refl
-  form_is_two (checked.Written form) = refl
-  form_is_two (checked.Refused refusal) = refl
+  form_is_two (Ok None) = refl
+  form_is_two (Ok (Some form)) = refl
+  form_is_two (Err refusal) = refl
 
   pub read_is_two : (read_of image).contents.form ≡ Two
   unfolding read_of
@@ -92,9 +92,9 @@ module _ (image : List ℕ) (each : (k : ℕ) → get_or image k 0 < 256) where
     found_is_written : (found : Checked) → Good image found → (read_as image found).number ≡ 0 → all_are 0xFF image ≡ false
         → write_of (read_as image found).contents area ≡ write_left 0 image
     unfolding Good
-    found_is_written checked.Blank blank e written = absurd (true≢false (sym blank.1 ∙ written))
-    found_is_written (checked.Written form) passed e written = passed_is_written passed
-    found_is_written (checked.Refused refusal) good e written = absurd (eqb-false _ _ (refuses refusal) e)
+    found_is_written (Ok None) blank e written = absurd (true≢false (sym blank.1 ∙ written))
+    found_is_written (Ok (Some form)) passed e written = passed_is_written passed
+    found_is_written (Err refusal) good e written = absurd (eqb-false _ _ (refuses refusal) e)
 
     -- writing what was read gives the same bytes
     pub large_write_after_read : (read_of image).number ≡ 0 → all_are 0xFF image ≡ false → write_of (read_of image).contents area ≡ write_left 0 image

@@ -23,7 +23,7 @@ use Rattle.settings.specs.Fields.{zero_at}
 use Rattle.settings.specs.Kept.{kept_read, kept_bodies}
 use Rattle.settings.specs.Answers.{numbered, WriteLeft}
 use Rattle.settings.proofs.AgainLaws.{number_again, long_again}
-use Rattle.settings_large.specs.declared.LargeContents.{LargeContents}
+use Rattle.settings_large.specs.Contents.{LargeContents}
 use Rattle.settings_large.specs.Contents.{contents_of}
 use Rattle.settings_large.specs.Image.{large_size, image_of}
 use Rattle.settings_large.specs.Reader.{LargeTold, read_of}

@@ -8,7 +8,7 @@ use Rattle.flash.proofs.erasing.erase.Given as goal
 abbrev pub invariant-loop-sector : goal.invariant-loop-sector
 invariant-loop-sector l =
     (length l.memory ≡ length l.initial.memory)
-    × (erase_of l.sector_size l.protection l.sector l.last_there l.memory ≡ erase_of l.sector_size l.protection l.first l.last l.initial.memory)
+    × (erase_of l.sectors.size l.sectors.protection.now l.sector l.last_there l.memory ≡ erase_of l.sectors.size l.sectors.protection.now l.first l.last l.initial.memory)
 
 abbrev pub decreases-loop-sector : goal.decreases-loop-sector
 decreases-loop-sector l = l.last_there + 1 - l.sector

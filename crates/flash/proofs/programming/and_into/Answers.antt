@@ -10,11 +10,11 @@ pub loop-i-preserved : goal.loop-i-preserved
 loop-i-preserved c =
     let a = c.args in
     let l = c.loop-i in
-    (omega arith, simp length-set l.invariant.1, next_changed (λ place old. bit_and old (get_or a.bytes.now place 0)) l.i a.area.now l.area l.invariant.2 (omega arith))
+    (simp length-set l.invariant.0, next_changed (λ place old. bit_and old (get_or a.bytes.now place 0)) l.i a.area.now l.area l.invariant.1 (omega arith))
 
 pub returns : goal.returns
 returns c =
     let a = c.args in
     let l = c.loop-i in
     let e : l.i ≡ length a.area.now = omega arith in
-    l.invariant.2 ∙ rw e (all_changed (λ place old. bit_and old (get_or a.bytes.now place 0)) a.area.now)
+    l.invariant.1 ∙ rw e (all_changed (λ place old. bit_and old (get_or a.bytes.now place 0)) a.area.now)

@@ -1,6 +1,5 @@
 -- `flash::programming::and_into` meets its contract: after each turn one more place has its AND, and the others are as they were.
 use mathlib.Core.Path.{◌≡◌}
-use Prim.Native.Nat.{◌-◌, ◌≤◌}
 use lib.Bits.{bit_and}
 use lib.ListN.{length, get_or}
 use Rattle.flash.proofs.PlaceLaws.{changed_to}
@@ -8,8 +7,4 @@ use Rattle.flash.proofs.programming.and_into.Given as goal
 
 abbrev pub invariant-loop-i : goal.invariant-loop-i
 invariant-loop-i l =
-    (l.i ≤ length l.initial.area) × (length l.area ≡ length l.initial.area)
-    × (l.area ≡ changed_to (λ place old. bit_and old (get_or l.bytes place 0)) l.i l.initial.area)
-
-abbrev pub decreases-loop-i : goal.decreases-loop-i
-decreases-loop-i l = length l.initial.area - l.i
+    (length l.area ≡ length l.initial.area) × (l.area ≡ changed_to (λ place old. bit_and old (get_or l.bytes place 0)) l.i l.initial.area)

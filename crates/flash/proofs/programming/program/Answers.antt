@@ -8,8 +8,8 @@ pub loop-i-preserved : goal.loop-i-preserved
 loop-i-preserved c =
     let a = c.args in
     let l = c.loop-i in
-    let sized : 0 < a.sector_size = omega arith in
-    turn_keeps a.sector_size a.at l.i c.least-count.result c.least.result
+    let sized : 0 < a.sectors.size = omega arith in
+    turn_keeps a.sectors.size a.at l.i c.least-count.result c.least.result
     sized c.loop-i-test.true c.least.ensures
     c.room.result a.bytes.now a.memory.now l.memory l.invariant.1 c.room.ensures c.least-count.ensures
-    a.protection.now _ _ c.program_sector.ensures l.invariant.2
+    a.sectors.protection.now _ _ c.program_sector.ensures l.invariant.2

@@ -8,7 +8,7 @@ use Rattle.flash.proofs.programming.program.Given as goal
 abbrev pub invariant-loop-i : goal.invariant-loop-i
 invariant-loop-i l =
     (l.i ≤ l.count) × (length l.memory ≡ length l.initial.memory)
-    × (program_of l.sector_size l.protection (l.at + l.i) (drop l.i l.bytes) l.memory ≡ program_of l.sector_size l.protection l.at l.bytes l.initial.memory)
+    × (program_of l.sectors.size l.sectors.protection.now (l.at + l.i) (drop l.i l.bytes) l.memory ≡ program_of l.sectors.size l.sectors.protection.now l.at l.bytes l.initial.memory)
 
 abbrev pub decreases-loop-i : goal.decreases-loop-i
 decreases-loop-i l = l.count - l.i

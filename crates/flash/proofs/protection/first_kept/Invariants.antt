@@ -5,7 +5,7 @@ use Rattle.flash.specs.Protection.{first_kept}
 use Rattle.flash.proofs.protection.first_kept.Given as goal
 
 abbrev pub invariant-loop-place : goal.invariant-loop-place
-invariant-loop-place l = first_kept l.sector_size l.protection l.place l.end ≡ first_kept l.sector_size l.protection l.at l.end
+invariant-loop-place l = first_kept l.sectors.size l.sectors.protection.now l.place l.end ≡ first_kept l.sectors.size l.sectors.protection.now l.at l.end
 
 abbrev pub decreases-loop-place : goal.decreases-loop-place
 decreases-loop-place l = l.end - l.place

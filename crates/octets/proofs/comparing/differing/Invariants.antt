@@ -1,12 +1,10 @@
 -- `octets::comparing::differing` meets its contract: what was counted, and what differs of the bytes left, is what differs of all.
 use mathlib.Core.Path.{◌≡◌}
-use Prim.Native.Nat.{◌+◌, ◌-◌, ◌≤◌}
-use lib.ListN.{drop}
+use Prim.Native.Nat.{◌+◌, ◌≤◌}
+use lib.ListN.{drop, length}
 use Rattle.octets.specs.Alike.{differing}
 use Rattle.octets.proofs.comparing.differing.Given as goal
 
-abbrev pub invariant-loop-i : goal.invariant-loop-i
-invariant-loop-i l = (l.i ≤ l.common) × ((l.count ≤ l.i) × (l.count + differing (drop l.i l.some) (drop l.i l.others) ≡ differing l.some l.others))
-
-abbrev pub decreases-loop-i : goal.decreases-loop-i
-decreases-loop-i l = l.common - l.i
+abbrev pub invariant-loop-one : goal.invariant-loop-one
+invariant-loop-one l =
+    (l.count ≤ length l.yielded) × (l.count + differing (drop (length l.yielded) l.some) (drop (length l.yielded) l.others) ≡ differing l.some l.others)

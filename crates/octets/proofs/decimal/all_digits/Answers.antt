@@ -8,12 +8,14 @@ use Rattle.octets.proofs.decimal.all_digits.Goals as goal
 
 pub loop-i-preserved : goal.loop-i-preserved
 loop-i-preserved c =
-    let l = c.loop-i in
-    (omega arith, simp length-set l.invariant.1, sym (digit_made l.rest l.i l.digits c.loop-i-test.true (omega arith)) ∙ l.invariant.2)
+    let l = c.loop-i in (
+      simp length-set l.invariant.0,
+      sym (digit_made l.rest l.i l.digits c.loop-i-test.true (omega (arith, l.auto.i))) ∙ l.invariant.1,
+    )
 
 pub returns : goal.returns
 unfolding last_digits
 returns c =
     let l = c.loop-i in
     let e : l.i ≡ 0 = omega arith in
-    rw e at l.invariant.2
+    rw e at l.invariant.1

@@ -1,10 +1,8 @@
--- `octets::reading::number32_at` meets its contract: four bytes that are there, or as many as are left, as two twos.
-use mathlib.Core.Path.{sym}
+-- `octets::reading::number32_at` meets its contract: four bytes, each below 256.
+use mathlib.Core.Path.{◌∙◌}
 use lib.ListN.{drop}
-use Rattle.octets.proofs.Numbers.{two_twos}
+use Rattle.octets.proofs.Numbers.{four_in_array}
 use Rattle.octets.proofs.reading.number32_at.Goals as goal
 
 pub returns : goal.returns
-returns c =
-    let a = c.args in
-    rw (c.number16_at-high.ensures, c.number16_at-low.ensures, c.part_of-four.ensures) (sym (two_twos (drop a.at a.bytes.now)))
+returns c = c.from_le_bytes.ensures ∙ four_in_array (drop c.args.at c.args.bytes.now) c.array_at.result c.array_at.ensures

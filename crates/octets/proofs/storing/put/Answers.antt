@@ -9,4 +9,4 @@ pub returns : goal.returns
 returns c =
     let a = c.args in
     let l = c.loop-i in
-    sym (stored l.area a.at l.i (length a.bytes.now) (drop l.i a.bytes.now) (drop_of_length-le a.bytes.now) (omega arith)) ∙ l.invariant.3
+    sym (stored l.area a.at l.i (length a.bytes.now) (drop l.i a.bytes.now) (drop_of_length-le a.bytes.now) (omega (arith, c.least-count.ensures, c.room.ensures))) ∙ l.invariant

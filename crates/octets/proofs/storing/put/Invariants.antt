@@ -1,14 +1,10 @@
 -- `octets::storing::put` meets its contract: at each turn, storing what is left of the bytes makes the whole.
 use mathlib.Core.Path.{◌≡◌}
-use Prim.Native.Nat.{◌+◌, ◌-◌, ◌≤◌, min}
-use lib.ListN.{length, drop}
+use Prim.Native.Nat.{◌+◌}
+use lib.ListN.{drop}
 use lib.Seq.{sets}
 use Rattle.octets.proofs.storing.put.Given as goal
 
 abbrev pub invariant-loop-i : goal.invariant-loop-i
 invariant-loop-i l =
-    (l.i ≤ l.count) × (l.count ≡ min (length l.bytes) (length l.initial.area - l.at)) × (length l.area ≡ length l.initial.area)
-    × (sets l.area (l.at + l.i) (drop l.i l.bytes) ≡ sets l.initial.area l.at l.bytes)
-
-abbrev pub decreases-loop-i : goal.decreases-loop-i
-decreases-loop-i l = l.count - l.i
+    sets l.area (l.at + l.i) (drop l.i l.bytes) ≡ sets l.initial.area l.at l.bytes

@@ -1,16 +1,17 @@
 -- `session_judge::hearing::heard_in_detect` meets its contract: not acknowledged, another command byte, another length, or an exact Connect.
-use mathlib.Core.Path.{◌≡◌, refl, sym, ◌∙◌}
+use mathlib.Core.Path.{◌≡◌, refl, sym, ap, ◌∙◌}
 use mathlib.Core.List.{List}
 use Prim.Native.Nat.{ℕ, ◌+◌}
 use native.Mathlib.Omega.{arith}
-use borrow.Author.Tests.{eq-eqb}
 use lib.ListN.{length}
 use Rattle.octets.specs.Choice.{pick}
 use Rattle.line.specs.declared.Command.{Command}
 use Rattle.line.specs.declared.Command.TheVariants as command
 use Rattle.line.specs.Codes.{connect, acknowledged, is_one_of}
 use Rattle.line.specs.Packet.{length_in, code_in}
-use Rattle.line.specs.Acknowledgement.{acknowledgement}
+use Rattle.std.specs.Prelude.{Result, Ok}
+use Rattle.line.specs.declared.acknowledgement.FrameError.{FrameError}
+use Rattle.line.specs.Acknowledgement.{acknowledgement, code_of}
 use Rattle.line.specs.Commands.{length_fits, open_of, command_of}
 use Rattle.line.proofs.AcknowledgementLaws.{acknowledged_is_framed}
 use Rattle.line.proofs.CommandLaws.{read_stands}
@@ -27,6 +28,10 @@ others_are_silent standing command.Start h = refl
 others_are_silent standing (command.Rate id) h = refl
 others_are_silent standing command.WrongLength h = refl
 others_are_silent standing command.Unknown h = refl
+
+-- where nothing is wrong the code is 0x00
+framed_by : {answer : Result Unit FrameError} {code : ℕ} {nothing : Unit} → code_of answer ≡ code → answer ≡ Ok nothing → code ≡ acknowledged
+framed_by e f = sym e ∙ ap code_of f
 
 module _ (packet : List ℕ) where
   connect_stands : command_of packet ≡ command.Connect → (code_in packet ≡ connect) × (length_in packet ≡ 1)
@@ -54,18 +59,21 @@ module _ (packet : List ℕ) where
 pub returns-then-byte_at-ne-CONNECT : goal.returns-then-byte_at-ne-CONNECT
 unfolding heard_in_detect pick
 returns-then-byte_at-ne-CONNECT c =
-    rw (c.silently-then-byte_at-ne-CONNECT.ensures, ← c.acknowledge.ensures, eq-eqb _ _ c.if-acknowledge-ne-ACKNOWLEDGED.false)
+    let framed = framed_by c.acknowledge.ensures c.in-Ok.is in
+    rw (c.silently-then-byte_at-ne-CONNECT.ensures, framed)
     (sym (other_code _ _ (λ e. c.if-byte_at-ne-CONNECT.true (c.byte_at.ensures ∙ e))))
 
 pub returns-then-packet-ne-CONNECT_SIZE : goal.returns-then-packet-ne-CONNECT_SIZE
 unfolding heard_in_detect pick
 returns-then-packet-ne-CONNECT_SIZE c =
-    rw (c.silently-then-packet-ne-CONNECT_SIZE.ensures, ← c.acknowledge.ensures, eq-eqb _ _ c.if-acknowledge-ne-ACKNOWLEDGED.false)
-    (sym (other_size _ _ _ (sym c.acknowledge.ensures ∙ c.if-acknowledge-ne-ACKNOWLEDGED.false) c.if-packet-ne-CONNECT_SIZE.true))
+    let framed = framed_by c.acknowledge.ensures c.in-Ok.is in
+    rw (c.silently-then-packet-ne-CONNECT_SIZE.ensures, framed)
+    (sym (other_size _ _ _ framed c.if-packet-ne-CONNECT_SIZE.true))
 
 pub returns : goal.returns
 unfolding heard_in_detect pick
 returns c =
+    let framed = framed_by c.acknowledge.ensures c.in-Ok.is in
     let code = sym c.byte_at.ensures ∙ c.if-byte_at-ne-CONNECT.false in
-    let asked = exact_is_connect _ _ (sym c.acknowledge.ensures ∙ c.if-acknowledge-ne-ACKNOWLEDGED.false) code c.if-packet-ne-CONNECT_SIZE.false in
-    rw (c.acknowledges.ensures, c.connected.ensures, ← c.acknowledge.ensures, eq-eqb _ _ c.if-acknowledge-ne-ACKNOWLEDGED.false, asked)
+    let asked = exact_is_connect _ _ framed code c.if-packet-ne-CONNECT_SIZE.false in
+    rw (c.acknowledges.ensures, c.connected.ensures, framed, asked)

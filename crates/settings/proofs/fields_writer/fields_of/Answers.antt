@@ -1,20 +1,16 @@
--- `settings::fields_writer::fields_of` meets its contract: the bodies in the order of their kinds.
-use mathlib.Core.Path.{◌≡◌, refl, ◌∙◌}
-use mathlib.Core.List.{◌++◌}
-use lib.ListN.{length}
-use Rattle.octets.specs.Number.{bytes_of}
+-- `settings::fields_writer::fields_of` meets its contract: the bodies take the whole array.
 use borrow.Author.Rules.{rules}
-use Rattle.settings.specs.Bodies.{values_of, numbers_of, bodies_of}
-use Rattle.settings.proofs.BodyLaws.{protection_joined, bodies_made}
+use mathlib.Core.Path.{◌≡◌, sym, ◌∙◌}
+use Prim.Native.Nat.{ℕ}
+use lib.ListN.{length, replicate, length-replicate}
+use Rattle.octets.proofs.StoreLaws.{stored_whole}
+use Rattle.settings.specs.Bodies.{bodies_of}
+use Rattle.settings.proofs.BodyLaws.{length_bodies}
 use Rattle.settings.proofs.fields_writer.fields_of.Goals as goal
 
 pub returns : goal.returns
-unfolding bodies_of bytes_of
+unfolding bodies_of
 returns c =
     let s = c.args.settings in
-    let password : length s.password ≡ 32 = search rules in
-    let reset : length s.reset_password ≡ 16 = search rules in
-    let protection : length s.protection ≡ 8 = search rules in
-    rw (c.put-2.ensures, c.put.ensures, c.first_five-five.ensures, c.shown_of.ensures)
-    (protection_joined s.password s.reset_password (values_of s.shown ++ numbers_of s.shown) password reset refl 8 s.protection protection
-    ∙ bodies_made s.password s.reset_password s.shown s.protection)
+    let size : length (bodies_of s) ≡ 74 = length_bodies s (search rules) (search rules) (search rules) in
+    c.put_bodies.ensures ∙ stored_whole (replicate 74 0) (bodies_of s) (length-replicate {A = ℕ} 74 0 ∙ sym size)

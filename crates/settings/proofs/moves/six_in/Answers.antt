@@ -7,5 +7,4 @@ use Rattle.settings.proofs.moves.six_in.Goals as goal
 pub returns : goal.returns
 returns c =
     let a = c.args in
-    rw (c.put.ensures, c.part_of.ensures, c.bodies_at.ensures)
-    (body_taken (bodies_at a.form) 74 a.image.now (omega (arith, bodies_begin a.form)))
+    rw (c.array_at.ensures, c.form_bodies_at.ensures) (body_taken (bodies_at a.form) 74 a.image.now (omega (arith, bodies_begin a.form)))

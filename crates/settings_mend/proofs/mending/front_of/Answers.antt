@@ -4,4 +4,4 @@ use Rattle.settings.proofs.BodyLaws.{body_taken}
 use Rattle.settings_mend.proofs.mending.front_of.Goals as goal
 
 pub returns : goal.returns
-returns c = rw (c.put.ensures, c.part_of.ensures) (body_taken 0 126 c.args.image.now (omega arith))
+returns c = rw c.array_at.ensures (body_taken 0 126 c.args.image.now (omega arith))

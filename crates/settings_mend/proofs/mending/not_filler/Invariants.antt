@@ -1,13 +1,10 @@
--- `settings_mend::mending::not_filler` meets its contract: what was counted, and what differs of the bytes left, is what differs of all.
+-- `settings_mend::mending::not_filler` meets its contract: what was counted, and what is counted of the bytes left, is what is counted of all.
 use mathlib.Core.Path.{◌≡◌}
-use Prim.Native.Nat.{ℕ, ◌+◌, ◌-◌, ◌≤◌}
-use mathlib.Core.List.{List}
-use lib.ListN.{length, drop, replicate}
-use Rattle.octets.specs.Alike.{differing}
+use mathlib.Core.Bool.{not}
+use Prim.Native.Nat.{◌+◌}
+use lib.ListN.{drop}
+use Rattle.std.specs.Prelude.{◌==◌, count_by}
 use Rattle.settings_mend.proofs.mending.not_filler.Given as goal
 
-abbrev pub invariant-loop-i : goal.invariant-loop-i
-invariant-loop-i l = let right : List ℕ = replicate (length l.bytes) 0xFF in (l.i ≤ length l.bytes) × ((l.count ≤ l.i) × (l.count + differing (drop l.i l.bytes) (drop l.i right) ≡ differing l.bytes right))
-
-abbrev pub decreases-loop-i : goal.decreases-loop-i
-decreases-loop-i l = length l.bytes - l.i
+abbrev pub invariant-loop-byte : goal.invariant-loop-byte
+invariant-loop-byte l = l.count + count_by (λ byte. not (byte == 0xFF)) (drop l.byte-index l.bytes) ≡ count_by (λ byte. not (byte == 0xFF)) l.bytes

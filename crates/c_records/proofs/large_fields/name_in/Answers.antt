@@ -1,7 +1,0 @@
--- `c_records::large_fields::name_in` meets its contract: the name takes the whole array.
-use native.Mathlib.Omega.{arith}
-use Rattle.settings.proofs.BodyLaws.{body_taken}
-use Rattle.c_records.proofs.large_fields.name_in.Goals as goal
-
-pub returns : goal.returns
-returns c = rw (c.put.ensures, c.part_of.ensures) (body_taken 98 64 c.args.fields.now (omega arith))

@@ -1,0 +1,2 @@
+-- HexLaws: one byte more is printed.
+pub mod HexLaws

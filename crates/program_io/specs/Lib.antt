@@ -1,0 +1,2 @@
+-- Hex: bytes as the programs print them.
+pub mod Hex
