@@ -18,17 +18,16 @@ and line. Without --commit it looks at the files as they stand. What is counted 
 Status 0, or 2 for wrong use. To be run in the repository's root."""
 import collections
 import difflib
-import io
 import itertools
-import pathlib
 import re
-import subprocess
 import sys
-import tarfile
+
+sys.dont_write_bytecode = True
+from moved import Misuse, files_at, files_here
+from wrong_programs import functions_of_text
 
 ALIKE, FEWEST_WORDS = 0.85, 22
 SOURCE = re.compile(r"crates/\w+/src/.*\.rt")
-FUNCTION = re.compile(r'^( *)(?:pub(?:\(crate\))? )?(?:extern "C" )?fn (\w+)', re.M)
 HEAD = re.compile(r"\bfn (\w+)(?:<[^>]*>)?\((.*?)\)\s*(?:->|\n|requires|ensures|\{)", re.S)
 REQUIRES = re.compile(r"^ *requires \{ (.*) \}", re.M)
 CONVERSIONS = """least room byte_at part_of put fill put_number number16_at number32_at pair_at word_at long_at bytes_of is_multiple
@@ -64,25 +63,6 @@ LINES = {
 }
 
 
-class Misuse(Exception):
-    """Why nothing can be counted."""
-
-
-def texts_at(commit):
-    """The texts of the crates at a commit, by their paths."""
-    made = subprocess.run(["git", "archive", "--format=tar", commit, "crates"], capture_output=True)
-    if made.returncode:
-        raise Misuse(f"'{commit}' is no commit that has crates: {made.stderr.decode().strip()}")
-    with tarfile.open(fileobj=io.BytesIO(made.stdout)) as archive:
-        return {entry.name: archive.extractfile(entry).read().decode() for entry in archive if entry.name.endswith((".rt", ".antt"))}
-
-
-def texts_here():
-    named = subprocess.run(["git", "ls-files", "-co", "--exclude-standard", "crates"], check=True, capture_output=True, text=True)
-    return {name: pathlib.Path(name).read_text() for name in sorted(named.stdout.splitlines())
-            if name.endswith((".rt", ".antt")) and pathlib.Path(name).is_file()}
-
-
 def at_line(file, text, start):
     return f"{file}:{text.count(chr(10), 0, start) + 1}"
 
@@ -104,11 +84,10 @@ def words_of(function):
 def functions_in(sources):
     """The place, name and words of each function that is long enough to be compared."""
     for file, text in sources.items():
-        for found in FUNCTION.finditer(text):
-            end = re.compile(rf"^{found[1]}\}}", re.M).search(text, found.end())
-            words = words_of(text[found.start():end.end() if end else len(text)])
+        for found in functions_of_text(text):
+            words = words_of(found.text)
             if FEWEST_WORDS <= len(words):
-                yield f"{at_line(file, text, found.start())} {found[2]}", words
+                yield f"{at_line(file, text, found.begin)} {found.name}", words
 
 
 def alike(sources):
@@ -145,6 +124,7 @@ def counted(point, texts):
     """What is counted of a point: the places of each kind."""
     sources = {file: text for file, text in texts.items() if SOURCE.fullmatch(file)}
     if point == 2:
+        print("forms.py: comparing the functions two by two takes some 15 seconds", file=sys.stderr)
         return {"pairs of functions that are alike": alike(sources)}
     if point == 5:
         groups = {f"functions with {name}": together(sources, patterns) for name, patterns in TOGETHER.items()}
@@ -168,7 +148,7 @@ def main(arguments):
     wrong = [argument for argument in rest if argument not in "12345678" or len(argument) != 1]
     if wrong:
         raise Misuse(f"'{wrong[0]}' is no point: they are 1 to 8")
-    texts = texts_at(commit) if commit else texts_here()
+    texts = files_at(commit) if commit else files_here()
     for point in map(int, rest or "12345678"):
         for kind, places in counted(point, texts).items():
             print(f"{point}  {len(places):5}  {kind}", flush=True)
