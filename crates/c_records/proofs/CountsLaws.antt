@@ -26,7 +26,7 @@ pub counts_joined : (changes : Changes)
 unfolding counts_of bytes_of
 counts_joined changes = refl
 
-length_counts : (changes : Changes) → length (counts_of changes) ≡ 8
+pub length_counts : (changes : Changes) → length (counts_of changes) ≡ 8
 unfolding counts_of bytes_of
 length_counts changes = refl
 

@@ -5,7 +5,7 @@ use mathlib.Core.List.{List, [], ◌++◌}
 use mathlib.Core.Logic.{by_cases}
 use Prim.Native.Nat.{ℕ, ◌+◌, ◌-◌, ◌/◌, ◌%◌, ◌≤◌, ◌<◌, min}
 use native.Mathlib.Decide.{dec_le}
-use native.Mathlib.Nat.{add-sub_cancel_left}
+use native.Mathlib.Nat.{add-sub_cancel_left, mod-lt}
 use native.Mathlib.Omega.{arith}
 use lib.Bits.{bit_and}
 use lib.ListN.{length, get_or, take, drop, length-append, take-append-drop, get_or-append, length-take, length-drop, drop_of_length-le}
@@ -13,6 +13,7 @@ use lib.Seq.{get_or-append-add, drop-drop}
 use borrow.Rule.Slice.PartMut.{put_mid, mid_of}
 use Rattle.octets.specs.Choice.{pick}
 use Rattle.octets.specs.Number.{part}
+use Rattle.octets.proofs.Parts.{length_part}
 use Rattle.octets.proofs.Searching.{pick_true, pick_false}
 use Rattle.flash.specs.Places.{by_place}
 use Rattle.flash.specs.Protection.{is_protected}
@@ -147,8 +148,21 @@ module _ (sector_size : ℕ) (protection : List ℕ) where
 -- ---- a loop that programs sector by sector. One turn takes what is left of the sector, or of the bytes that have room.
 
 module _ (sector_size at i count step : ℕ) (sized : 0 < sector_size) (more : i < count) (steps : step ≡ min (sector_size - (at + i) % sector_size) (count - i)) where
+  pub turn_goes_on : count - (i + step) < count - i
+  turn_goes_on = let left = mod-lt (at + i) sized in omega arith
+
   module _ (room : ℕ) (bytes memory₀ memory : List ℕ) (same : length memory ≡ length memory₀) (has : room ≡ length memory₀ - at) (counts : count ≡ min (length bytes) room) where
-    -- after a turn, programming the bytes left still makes the whole
+    -- the bytes of one turn lie in one sector, and in the memory
+    pub turn_fits : ((at + i) % sector_size + length (part i (i + step - i) bytes) ≤ sector_size)
+        × (at + i + length (part i (i + step - i) bytes) ≤ length memory)
+        × (0 < sector_size)
+    turn_fits =
+        let left = mod-lt (at + i) sized in
+        let stays : i + step ≤ count = omega arith in
+        let e : length (part i (i + step - i) bytes) ≡ step = length_part i (i + step - i) bytes (omega arith) ∙ add-sub_cancel_left i step in
+        (rw e (omega arith), rw e (omega arith), sized)
+
+    -- after it, programming the bytes left still makes the whole
     pub turn_keeps : (protection after whole : List ℕ) → after ≡ program_of sector_size protection (at + i) (part i (i + step - i) bytes) memory
         → program_of sector_size protection (at + i) (drop i bytes) memory ≡ whole
         → (i + step ≤ count) × (length after ≡ length memory₀) × (program_of sector_size protection (at + (i + step)) (drop (i + step) bytes) after ≡ whole)

@@ -122,7 +122,7 @@ module _ (version : List ℕ) (bcr bsl : ℕ) where
   unfolding info_of bytes_of
   short_info_made = refl
 
-  long_info_made : number_at 0 4 version < 4294967296 → info_stored 28 version bcr bsl ≡ info_of 8 (number_at 0 8 version) bcr bsl
+  pub long_info_made : number_at 0 4 version < 4294967296 → info_stored 28 version bcr bsl ≡ info_of 8 (number_at 0 8 version) bcr bsl
   unfolding info_of bytes_of
   long_info_made small =
       ap (λ (eight : List ℕ). around_version eight bcr bsl)

@@ -4,9 +4,9 @@ use mathlib.Core.List.{List, [], ◌∷◌, ◌++◌}
 use Prim.Native.Nat.{ℕ, zero, suc, ◌+◌, ◌*◌, ◌/◌, ◌%◌, ◌^◌, ◌<◌}
 use native.Mathlib.Nat.{pow-suc, div-lt_iff_lt-mul, mod-lt, zero-lt-suc}
 use native.Mathlib.Omega.{arith}
-use lib.ListN.{length, get_or, take}
+use lib.ListN.{length, get_or, take, drop, replicate}
 use lib.Seq.{sets}
-use Rattle.octets.specs.Number.{number_of, bytes_of, number_at}
+use Rattle.octets.specs.Number.{number_of, bytes_of, number_at, part}
 
 pub length-bytes_of : (width number : ℕ) → length (bytes_of width number) ≡ width
 unfolding bytes_of
@@ -55,6 +55,11 @@ four_in_array (a ∷ []) array e = rw e (omega arith)
 four_in_array (a ∷ b ∷ []) array e = rw e (omega arith)
 four_in_array (a ∷ b ∷ c ∷ []) array e = rw e (omega arith)
 four_in_array (a ∷ b ∷ c ∷ d ∷ bytes) array e = rw e (omega arith)
+
+pub four_read : (bytes array : List ℕ) (at sum : ℕ) → array ≡ sets (replicate 4 0) 0 (part at 4 bytes)
+    → sum ≡ get_or array 0 0 + get_or array 1 0 * 256 + get_or array 2 0 * 65536 + get_or array 3 0 * 16777216
+    → sum ≡ number_at at 4 bytes
+four_read bytes array at sum e s = s ∙ four_in_array (drop at bytes) array e
 
 -- each byte of a number is one
 pub each_bytes_of : (width number : ℕ) → (k : ℕ) → get_or (bytes_of width number) k 0 < 256

@@ -41,6 +41,10 @@ stored_whole area bytes e =
     let n : 0 + length bytes ≡ length area = omega arith in
     sets-eq bytes area 0 (omega arith) ∙ rw (n, drop-length) (append-nil bytes)
 
+-- so stored over zeros, as many as they are
+pub stored_over_zeros : (n : ℕ) (bytes : List ℕ) → length bytes ≡ n → bytes ≡ sets (replicate n 0) 0 bytes
+stored_over_zeros n bytes e = sym (stored_whole (replicate n 0) bytes (length-replicate n 0 ∙ sym e))
+
 -- two runs of bytes, one after the other, are one run
 pub sets_join : (area : List ℕ) (at next : ℕ) (bytes more : List ℕ) → next ≡ at + length bytes
     → sets (sets area at bytes) next more ≡ sets area at (bytes ++ more)

@@ -48,11 +48,16 @@ pub fn part_of(bytes: &[u8], at: usize, count: usize) -> &[u8]
 }
 
 // So many bytes from a place on, as an array; a place past the end has 0.
+#[tactic(auto, using(crate::proofs::StoreLaws::stored_over_zeros))]
 pub fn array_at<const N: usize>(bytes: &[u8], at: usize) -> [u8; N]
     ensures { result ≡ sets (replicate N 0) 0 (part at N bytes.now) }
 {
+    let found = part_of(bytes, at, N);
+    if let Ok(whole) = <&[u8; N]>::try_from(found) {
+        return *whole;
+    }
     let mut array = [0; N];
-    storing::put(&mut array, 0, part_of(bytes, at, N));
+    storing::put(&mut array, 0, found);
     array
 }
 
@@ -65,6 +70,7 @@ pub fn number16_at(bytes: &[u8], at: usize) -> u16
 }
 
 // The four-byte number at a place; bytes past the end count as 0.
+#[tactic(auto, using(crate::proofs::Numbers::four_read))]
 pub fn number32_at(bytes: &[u8], at: usize) -> u32
     ensures { result ≡ number_at at 4 bytes.now }
 {

@@ -19,7 +19,7 @@ use Rattle.session.specs.StartAnswers.{StartTold, start_numbered}
 abbrev pub session_of : ℕ → Kept → Session
 session_of main_size settings = record { standing = at_start; main_size = main_size; settings = settings }
 
--- what stands beside a refusal: no valid record, so that every call refuses it
+-- what stands beside a refusal in these definitions: no valid record, so that every call refuses it
 abbrev pub no_session : Session
 no_session = session_of 0 no_kept
 

@@ -2,9 +2,9 @@
 use mathlib.Core.Path.{◌≡◌, refl, sym, ap, ◌∙◌}
 use mathlib.Core.Bool.{true, false, true≢false}
 use mathlib.Core.List.{◌∷◌}
-use Prim.Native.Nat.{ℕ, zero, suc, ◌-◌, ◌<◌}
+use Prim.Native.Nat.{ℕ, zero, suc, ◌-◌, ◌≤◌, ◌<◌}
 use native.Mathlib.Omega.{arith}
-use borrow.Author.Tests.{eq-eqb, ne_eqb}
+use borrow.Author.Tests.{le-leb, eq-eqb, ne_eqb}
 use lib.ListN.{get_or, get_or-eq_default}
 use Rattle.octets.specs.Choice.{pick}
 use Rattle.octets.proofs.Searching.{pick_true, pick_false, by_pick}
@@ -50,3 +50,8 @@ rate_in_table last_rate zero rate e h other = absurd (zero_is_none last_rate h)
 rate_in_table last_rate (suc place) rate e h other =
     let before : place ≡ suc place - 1 = omega arith in
     e ∙ ap (λ (k : ℕ). get_or rates k 0) before ∙ sym (pick_true _ 0 h ∙ pick_false _ _ (ne_eqb (suc place) 0x10 other))
+
+-- and has the same rate on every part
+pub same_rate : (last_rate id : ℕ) → id ≤ 9 → rate_of last_rate id ≡ rate_of 9 id
+unfolding is_rate rate_of pick
+same_rate last_rate id few = rw (le-leb id 9 few)

@@ -1,5 +1,5 @@
 -- What the reader tells.
-use Rattle.std.specs.Prelude.{Some, None, Ok, Err, is_ok}
+use Rattle.std.specs.Prelude.{Some, None, Result, Ok, Err, is_ok}
 use mathlib.Core.Path.{◌≡◌, refl, sym}
 use Prim.Native.Nat.{ℕ, ◌≤◌}
 use mathlib.Core.Bool.{false}
@@ -15,7 +15,8 @@ use Rattle.settings.specs.Entries.{entry_differs, differing_entry}
 use Rattle.settings.specs.declared.Refusal.{Refusal}
 use Rattle.settings.specs.declared.Refusal.TheVariants.{SizeWrong, ChecksumDiffers, FormUnknown, EntryDiffers, FillerDiffers, ValueNotAllowed}
 use Rattle.settings.specs.declared.Forms.TheVariants.{Both}
-use Rattle.settings.specs.Answers.{refusal_numbered}
+use Rattle.settings.specs.Held.{Contents}
+use Rattle.settings.specs.Answers.{refusal_numbered, read_numbered, read_told}
 use Rattle.settings.specs.Reader.{Checked, checked_of, read_as, read_of, is_accepted}
 
 -- every refusal has a number
@@ -26,6 +27,12 @@ refuses FormUnknown = refl
 refuses (EntryDiffers entry) = refl
 refuses FillerDiffers = refl
 refuses ValueNotAllowed = refl
+
+-- what is told of an image has the number and the entry of the answer
+pub told_as_numbered : (answer : Result Contents Refusal)
+    → ((read_told answer).number ≡ (read_numbered answer).number) × ((read_told answer).entry ≡ (read_numbered answer).entry)
+told_as_numbered (Ok contents) = (refl, refl)
+told_as_numbered (Err refusal) = (refl, refl)
 
 -- what is not refused has number 0
 ok_has_0 : (image : List ℕ) (found : Checked) → is_ok found ≡ eqb (read_as image found).number 0

@@ -29,6 +29,11 @@ refusal_numbered (EntryDiffers entry) = numbered 6 entry
 refusal_numbered FillerDiffers = numbered 7 0
 refusal_numbered ValueNotAllowed = numbered 8 0
 
+-- what the reader answers, of all that it can read
+abbrev pub read_numbered : {A : Type 0} → Result A Refusal → Numbered
+read_numbered (Ok value) = numbered 0 0
+read_numbered (Err refusal) = refusal_numbered refusal
+
 -- all that the reader tells
 pub record ReadTold : Type 0 where
   pub number : ℕ

@@ -36,7 +36,7 @@ kept_of settings = record {
 abbrev pub blank_kept : Kept
 blank_kept = kept_of blank_settings
 
--- what stands beside a refusal
+-- what stands beside a refusal in the definitions
 abbrev pub no_kept : Kept
 no_kept = kept_of no_settings
 

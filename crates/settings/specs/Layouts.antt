@@ -17,7 +17,7 @@ use Rattle.settings.specs.Reader.{checksum_differs}
 unfoldable pub is_laid_out : Layout → List ℕ → Bool
 is_laid_out layout image = pick (eqb (number_at 0 2 image) layout.form) (eqb (number_at 2 2 image) (count_of layout)) false
 
--- 7: a byte from the bodies' end up to the checksum is not 0xFF, or one after the first 1,024 bytes, where there are any
+-- 7: a byte from the bodies' end up to the checksum is not 0xFF, or one of the 1,024 bytes after the first 1,024, where there are any
 unfoldable pub rest_differs : Layout → List ℕ → Bool
 rest_differs layout image =
     pick (all_are 0xFF (part (bodies_end layout) (checksum_at - bodies_end layout) image)) (not (all_are 0xFF (part image_size image_size image))) true

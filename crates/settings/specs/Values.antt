@@ -29,7 +29,7 @@ blank_settings = record {
   reset_password = replicate 16 0xFF;
 }
 
--- what stands beside a refusal: its reset mode is not allowed, so no call takes it
+-- what stands beside a refusal in the definitions: its reset mode is not allowed, so no call takes it
 abbrev pub no_settings : Settings
 no_settings = record {
   shown = record {

@@ -6,11 +6,16 @@ ghost use Rattle.settings.specs.Entries.{differing_entry};
 
 use crate::{ImageLayout, places};
 
-// Stores the layout's table from the start on, as far as there is room.
+// Stores the layout's table from the start on, number by number, as far as there is room.
+#[tactic(auto, using(crate::proofs::TableLaws::length_table, crate::proofs::TableLaws::put_next), unfolding(crate::specs::Layout::pairs_of))]
 pub(crate) fn put_table<L: ImageLayout>(image: &mut [u8])
     ensures { image.new ≡ sets image.old 0 (pairs_of (table_of L.layout)) }
 {
-    octets::put(image, 0, L::table());
+    let count = 2 + 4 * places::entries_of::<L>();
+    for place in 0..count {
+        let number = places::table_number::<L>(place);
+        octets::put_number(image, 2 * place, 2, u32::from(number));
+    }
 }
 
 // The number of the first entry that differs from the layout's table, if one does. Entries are counted from 1. Document 01 has two loops that

@@ -1,6 +1,6 @@
 -- Demand 1 and 2: what holds of every start and of every call, over the definitions that `start` and `call` are proved to meet. That a refused call
 -- changes nothing, and that no reply has more than 1,729 bytes, stands in the loader's own CallLaws; which numbers there are, in NumberRule.
-use Rattle.std.specs.Prelude.{Some, None, Ok, Err}
+use Rattle.std.specs.Prelude.{Some, None, Result, Ok, Err, IsErr}
 use mathlib.Core.Path.{◌≡◌, refl, sym, ap, subst, ◌∙◌}
 use mathlib.Core.Bool.{Bool, true, false, true≢false, not}
 use mathlib.Core.List.{List, ◌∷◌}
@@ -46,12 +46,13 @@ use Rattle.session_act.proofs.ActingLaws.{SameLengths, act_keeps_lengths}
 use Rattle.session_act.proofs.LockedLaws.{is_strike, locked_orders}
 use Rattle.session_send.specs.Answering.{hushed, answer_of}
 use Rattle.session.specs.declared.Session.{Session}
+use Rattle.session.specs.declared.StartError.{StartError}
 use Rattle.session.specs.StartAnswers.{StartTold}
 use Rattle.session.specs.CallAnswers.{Left}
 use Rattle.octets.specs.Alike.{are_same}
 use Rattle.flash.specs.Regions.{is_main_size}
 use Rattle.session.specs.Records.{is_record}
-use Rattle.session.specs.Starting.{session_of, no_session, start_read, settings_read, start_of}
+use Rattle.session.specs.Starting.{session_of, no_session, start_read, settings_read, start_of, start_told}
 use Rattle.session.specs.Calling.{board_of, carries_reset, judgement, intent, deed, serve_of, call_of}
 use Rattle.session.proofs.CallLaws.{every_call}
 use Rattle.octets.proofs.AlikeLaws.{same_are_equal}
@@ -207,7 +208,7 @@ module _ (part : Part) where
     unfolding settings_read
     small_is_taken size = pick_false _ _ (ne_eqb (length image) large_size (λ e. omega arith))
 
-  -- what stands beside a refused start is refused by every call
+  -- what stands beside a refused start in the definitions is refused by every call
   pub no_session_is_refused : (main settings : ℕ) → is_record part no_session main settings ≡ false
   unfolding is_record is_allowed pick
   no_session_is_refused main settings =
@@ -290,3 +291,10 @@ am13e230x_wrong_count_is_at_most_3 = wrong_count_is_at_most_3 am13e230x
 pub am13e230x_started_is_valid : (fuse : Bool) (main settings window : List ℕ) → (start_of am13e230x fuse main settings window).answer.number ≡ 0
     → is_record am13e230x (start_of am13e230x fuse main settings window).session (length main) (length settings) ≡ true
 am13e230x_started_is_valid = started_is_valid am13e230x
+
+-- ---- a start that is refused, on either part
+
+-- no session goes to its caller
+pub refused_start_gives_none : (started : Result Session StartError) → ((start_told started).answer.number ≡ 0 → ⊥) → IsErr started
+refused_start_gives_none (Ok session) refused = absurd (refused refl)
+refused_start_gives_none (Err error) refused = refl

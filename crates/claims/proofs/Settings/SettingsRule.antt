@@ -1,7 +1,7 @@
 -- Demand 2: "The settings image is read and written by one rule: read after write gives the same settings, and write after read gives the same
 -- bytes unless the image was blank." In both forms, T-09.
 -- `read_of` and `write_of` are what `settings::read` and `settings::write` are proved to do.
-use Rattle.std.specs.Prelude.{Some, None, Ok, Err}
+use Rattle.std.specs.Prelude.{Some, None, Result, Ok, Err, IsErr}
 use mathlib.Core.Path.{◌≡◌, refl, sym, ap, ◌∙◌}
 use mathlib.Core.Bool.{true, false, true≢false}
 use mathlib.Core.List.{List}
@@ -15,12 +15,13 @@ use Rattle.octets.proofs.AlikeLaws.{replicate_all_are}
 use Rattle.settings.specs.declared.Form.{Form}
 use Rattle.settings.specs.declared.Form.TheVariants.{One}
 use Rattle.settings.specs.declared.Forms.TheVariants.{Both}
+use Rattle.settings.specs.declared.Refusal.{Refusal}
 use Rattle.settings.specs.Held.{Contents}
 use Rattle.settings.specs.Layout.{image_size}
 use Rattle.settings.specs.Bodies.{contents_in}
 use Rattle.settings.specs.Values.{is_allowed, no_name, blank_settings, blank_contents, no_contents}
 use Rattle.settings.specs.Image.{image_of}
-use Rattle.settings.specs.Answers.{accepted, write_left}
+use Rattle.settings.specs.Answers.{accepted, read_told, write_left}
 use Rattle.settings.specs.Reader.{Checked, is_blank, checked_of, read_as, read_of}
 use Rattle.settings.specs.Writer.{name_fits, write_of}
 use Rattle.settings.proofs.ReaderLaws.{refuses}
@@ -99,7 +100,12 @@ blank_written_reads area size = read_after_write blank_contents blank_contents_h
 
 -- ---- what stands beside a refusal
 
--- a caller that overlooks a refusal is refused in turn
+-- no contents go to the caller
+pub refused_reading_gives_none : (answer : Result Contents Refusal) → ((read_told answer).number ≡ 0 → ⊥) → IsErr answer
+refused_reading_gives_none (Ok contents) refused = absurd (refused refl)
+refused_reading_gives_none (Err refusal) refused = refl
+
+-- what stands there in the definitions is refused in turn
 pub no_contents_are_refused : (area : List ℕ) → length area ≡ image_size → write_of no_contents area ≡ write_left 8 area
 unfolding write_of is_allowed pick
 no_contents_are_refused area size = rw (eq-eqb (length area) image_size size)

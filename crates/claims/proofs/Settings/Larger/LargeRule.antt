@@ -1,7 +1,7 @@
 -- Demand 2: "read after write gives the same settings, and write after read gives the same bytes unless the image was blank." On the larger part, T-10.
 -- `read_of` and `write_of` are what `settings_large::read` and `settings_large::write` are proved to do.
 use Rattle.settings.specs.Reader.{Checked}
-use Rattle.std.specs.Prelude.{Some, None, Ok, Err}
+use Rattle.std.specs.Prelude.{Some, None, Result, Ok, Err, IsErr}
 use mathlib.Core.Path.{◌≡◌, refl, sym, ap, ◌∙◌}
 use mathlib.Core.Bool.{true, false, true≢false, not}
 use mathlib.Core.List.{List}
@@ -18,6 +18,7 @@ use Rattle.octets.proofs.AlikeLaws.{replicate_all_are}
 use Rattle.parts.specs.Parts.{am13e230x}
 use Rattle.settings.specs.declared.Form.{Form}
 use Rattle.settings.specs.declared.Form.TheVariants.{Two}
+use Rattle.settings.specs.declared.Refusal.{Refusal}
 use Rattle.settings.specs.Values.{is_allowed, no_name}
 use Rattle.settings.specs.Layout.{offset_of, sum_of}
 use Rattle.settings.specs.Answers.{WriteLeft, write_left}
@@ -25,7 +26,7 @@ use Rattle.settings.proofs.ReaderLaws.{refuses}
 use Rattle.settings_large.specs.Contents.{LargeContents}
 use Rattle.settings_large.specs.Contents.{contents_of, contents_in, blank_contents, no_contents}
 use Rattle.settings_large.specs.Image.{large_size, image_of}
-use Rattle.settings_large.specs.Reader.{accepted, checked_of, read_as, read_of}
+use Rattle.settings_large.specs.Reader.{accepted, read_told, checked_of, read_as, read_of}
 use Rattle.settings_large.specs.Writer.{is_one, write_of}
 use Rattle.settings_large.proofs.PassingLaws.{Passed, Good, checked_is_good, passes}
 use Rattle.c_records.specs.Records.{record_size}
@@ -119,7 +120,12 @@ large_blank_written_reads area size = large_read_after_write blank_contents blan
 
 -- ---- what stands beside a refusal
 
--- a caller that overlooks a refusal is refused in turn
+-- no contents go to the caller
+pub large_refused_reading_gives_none : (answer : Result LargeContents Refusal) → ((read_told answer).number ≡ 0 → ⊥) → IsErr answer
+large_refused_reading_gives_none (Ok contents) refused = absurd (refused refl)
+large_refused_reading_gives_none (Err refusal) refused = refl
+
+-- what stands there in the definitions is refused in turn
 pub large_no_contents_are_refused : (area : List ℕ) → length area ≡ large_size → write_of no_contents area ≡ write_left 8 area
 unfolding write_of is_allowed pick
 large_no_contents_are_refused area size = rw (eq-eqb (length area) large_size size)

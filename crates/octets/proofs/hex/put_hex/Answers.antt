@@ -12,7 +12,7 @@ loop-i-preserved c =
     let l = c.loop-i in
     let count = c.least-count.result in
     let there : l.i < count = omega (arith, length-take count a.bytes.now) in
-    rw (c.put.ensures, c.text_of.ensures, get_or-take count a.bytes.now l.i 0 there)
+    rw (c.put_text.ensures, get_or-take count a.bytes.now l.i 0 there)
     (sym (text_next l.area a.at l.i a.bytes.now (omega (arith, there, c.least-count.ensures))) ∙ l.invariant)
 
 pub returns : goal.returns
