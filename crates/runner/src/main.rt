@@ -3,8 +3,9 @@
 // is printed there is none to make.
 #![tactic(auto)]
 
+mod calls;
+
 use runner_text::{LINE_SIZE, SCRIPT_LIMIT};
-use session::Called;
 use session_state::Standing;
 use std::io;
 
@@ -32,7 +33,6 @@ fn play(rt: &impl Print, script: &[u8], count: u8) -> io::Result<()> {
     for index in 0..count {
         let wait = runner_text::wait_of(script, index);
         let packet = runner_text::packet_of(script, index);
-        // a refused call has no reply, and leaves the session as it was
         let called = mspm0::call(
             session,
             &mut main,
@@ -41,14 +41,10 @@ fn play(rt: &impl Print, script: &[u8], count: u8) -> io::Result<()> {
             wait,
             packet,
             &mut reply,
-        )
-        .unwrap_or(Called {
-            session,
-            size: 0,
-            burn: false,
-        });
-        print_line(rt, index + 1, octets::part_of(&reply, 0, called.size))?;
-        session = called.session;
+        );
+        let left = calls::left_by(session, called);
+        print_line(rt, index + 1, octets::part_of(&reply, 0, left.size))?;
+        session = left.session;
     }
     print_end(rt, session.standing)
 }

@@ -4,8 +4,9 @@
 // is printed there is none to make.
 #![tactic(auto)]
 
+mod calls;
+
 use runner_text::{LINE_SIZE, SCRIPT_LIMIT};
-use session::Called;
 use session_state::Standing;
 use std::io;
 
@@ -32,16 +33,10 @@ fn play(rt: &impl Print, script: &[u8], count: u8) -> io::Result<()> {
     for index in 0..count {
         let wait = runner_text::wait_of(script, index);
         let packet = runner_text::packet_of(script, index);
-        // a refused call has no reply, and leaves the session as it was
-        let called = am13e230x::call(
-            session, &mut main, &mut image, wait, packet, &mut reply,
-        ).unwrap_or(Called {
-            session,
-            size: 0,
-            burn: false,
-        });
-        print_line(rt, index + 1, octets::part_of(&reply, 0, called.size))?;
-        session = called.session;
+        let called = am13e230x::call(session, &mut main, &mut image, wait, packet, &mut reply);
+        let left = calls::left_by(session, called);
+        print_line(rt, index + 1, octets::part_of(&reply, 0, left.size))?;
+        session = left.session;
     }
     print_end(rt, session.standing)
 }

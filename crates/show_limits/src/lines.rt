@@ -1,4 +1,6 @@
 // What a line tells of a call, in the order of its columns.
+ghost use Rattle.std.specs.Prelude.{◌≤◌, length};
+
 use program_io::Hex;
 use session::Called;
 use session_state::{Phase, Standing};
@@ -34,9 +36,15 @@ pub(crate) fn show_standing(rt: &impl Print, standing: Standing) -> io::Result<(
     print!(rt; "  {name:<8}{sleep:>6}{idle:>6}{wrong:>6}{tries:>6}{rate:>6}")
 }
 
-// How many bytes are 0xFF.
-fn erased(bytes: &[u8]) -> usize {
-    bytes.iter().filter(|&&byte| byte == 0xFF).count()
+// How many bytes are 0xFF. By a sum and not by `filter` and `count`, which looks at one byte at a time.
+fn erased(bytes: &[u8]) -> usize
+    ensures { result ≤ length bytes.now }
+{
+    let mut count = 0;
+    for byte in bytes {
+        count += usize::from(*byte == 0xFF);
+    }
+    count
 }
 
 pub(crate) fn show_flash(rt: &impl Print, main: &[u8], image: &[u8]) -> io::Result<()> {

@@ -17,14 +17,15 @@ fn frame(packet: &mut Packet, count: usize)
     octets::put(packet, CORE_AT + count, &sum.to_le_bytes());
 }
 
-// Stores the packet of a row, and answers its size, which may be more than there is room for.
+// Stores the packet of a row, and answers its size, which may be more than there is room for. What the row does not fill is left as it was.
 pub(crate) fn put_packet(row: &Row, packet: &mut Packet) -> usize {
     let count = rows::count_in(row) as usize;
     if rows::is_packet(row) {
-        rows::put_bytes(row, packet);
+        rows::put_bytes(row, &mut packet[..count.min(codes::REPLY_LIMIT)]);
         return count;
     }
-    rows::put_bytes(row, &mut packet[CORE_AT..]);
+    let end = (CORE_AT + count).min(codes::REPLY_LIMIT);
+    rows::put_bytes(row, &mut packet[CORE_AT..end]);
     frame(packet, count);
     count + PACKET_FRAME
 }

@@ -1,28 +1,22 @@
 // A new board for each request, such that the printed reply can arise: MAIN of 4,096 bytes 0xFF, both passwords all 0xFF, readout on, and a
 // window of zeros where the part has one.
-use anyhow::{Result, anyhow};
-use arrayvec::ArrayVec;
 use line::{CORE_AT, codes};
 use parts::Part;
 use session::Session;
 use settings::{Contents, Form, Shown};
 use settings_large::LargeContents;
+use std::io;
 
 // The size of a Factory reset that carries the reset password.
 const RESET_SIZE: usize = 24;
 
-// The larger image and the larger window of the two parts have so many bytes.
-const MOST_IMAGE: usize = 2048;
-
-const MOST_WINDOW: usize = 3456;
-
-// The image and the window have as many bytes as the part's.
+// The memory of a board is lent, so that a board is made where it stands; the image and the window have as many bytes as the part's.
 #[derive(Drop)]
-struct Board {
+struct Board<'a> {
     part: Part,
-    main: [u8; 4096],
-    image: ArrayVec<u8, MOST_IMAGE>,
-    window: ArrayVec<u8, MOST_WINDOW>,
+    main: &'a mut [u8],
+    image: &'a mut [u8],
+    window: &'a mut [u8],
     session: Session,
 }
 
@@ -35,8 +29,13 @@ fn shown_for(packet: &[u8]) -> Shown {
     }
 }
 
+// No board here is refused; one that were would be told as a failed write is.
+fn refused() -> io::Error {
+    io::Error::other("a board refuses what it is given")
+}
+
 // Writes the settings of a board, by the size that its part's image has.
-fn write_settings(shown: Shown, image: &mut [u8]) -> Result<()> {
+fn write_settings(shown: Shown, image: &mut [u8]) -> io::Result<()> {
     if image.len() == settings_large::IMAGE_SIZE {
         let contents = LargeContents {
             form: Form::Two,
@@ -46,7 +45,7 @@ fn write_settings(shown: Shown, image: &mut [u8]) -> Result<()> {
             },
             name: [0xFF; 64],
         };
-        return settings_large::write(contents, image).map_err(|error| anyhow!("{error:?}"));
+        return settings_large::write(contents, image).map_err(|_| refused());
     }
     let contents = Contents {
         form: Form::One,
@@ -56,29 +55,20 @@ fn write_settings(shown: Shown, image: &mut [u8]) -> Result<()> {
         },
         name: [0xFF; 64],
     };
-    settings::write(contents, image).map_err(|error| anyhow!("{error:?}"))
+    settings::write(contents, image).map_err(|_| refused())
 }
 
-impl Board {
-    // A board of a part, with the settings for a packet.
-    fn new(part: Part, packet: &[u8]) -> Result<Board> {
-        let main = [0xFF; 4096];
-        let mut image = ArrayVec::new();
-        image.try_extend_from_slice(octets::part_of(
-            &[0; MOST_IMAGE],
-            0,
-            part.settings_size as usize,
-        ))?;
-        let mut window = ArrayVec::new();
-        window.try_extend_from_slice(octets::part_of(
-            &[0; MOST_WINDOW],
-            0,
-            part.window_size as usize,
-        ))?;
-        write_settings(shown_for(packet), &mut image)?;
-        let session = session::start(part, false, &main, &image, &window).map_err(|error| anyhow!(
-            "{error:?}"
-        ))?;
+impl<'a> Board<'a> {
+    // Starts a board of a part, with the settings for a packet.
+    fn start(
+        part: Part,
+        packet: &[u8],
+        main: &'a mut [u8],
+        image: &'a mut [u8],
+        window: &'a mut [u8],
+    ) -> io::Result<Board<'a>> {
+        write_settings(shown_for(packet), image)?;
+        let session = session::start(part, false, main, image, window).map_err(|_| refused())?;
         Ok(Board {
             part,
             main,
@@ -89,24 +79,24 @@ impl Board {
     }
 
     // Sends a packet that comes without a wait, and answers the size of the reply.
-    fn call(&mut self, packet: &[u8], reply: &mut [u8]) -> Result<usize> {
+    fn call(&mut self, packet: &[u8], reply: &mut [u8]) -> io::Result<usize> {
         let called = session::call(
             self.part,
             self.session,
-            &mut self.main,
-            &mut self.image,
-            &mut self.window,
+            self.main,
+            self.image,
+            self.window,
             0,
             packet,
             reply,
         )
-        .map_err(|error| anyhow!("{error:?}"))?;
+        .map_err(|_| refused())?;
         self.session = called.session;
         Ok(called.size)
     }
 
     // Connect comes to a session that was just started, Unlock to a locked one, and any other command to an unlocked one.
-    fn make_ready(&mut self, code: u8, reply: &mut [u8]) -> Result<()> {
+    fn make_ready(&mut self, code: u8, reply: &mut [u8]) -> io::Result<()> {
         if code == codes::CONNECT {
             return Ok(());
         }
@@ -122,9 +112,27 @@ impl Board {
     }
 }
 
-// Writes what the loader of a part replies to a packet, and answers its size.
-pub(crate) fn put_reply(part: Part, packet: &[u8], reply: &mut [u8]) -> Result<usize> {
-    let mut board = Board::new(part, packet)?;
+// Writes what the loader replies to a packet on a board of such an image and such a window, and answers its size.
+fn put_reply_on(
+    part: Part,
+    packet: &[u8],
+    image: &mut [u8],
+    window: &mut [u8],
+    reply: &mut [u8],
+) -> io::Result<usize> {
+    let mut main = [0xFF; 4096];
+    let mut board = Board::start(part, packet, &mut main, image, window)?;
     board.make_ready(octets::byte_at(packet, CORE_AT), reply)?;
     board.call(packet, reply)
+}
+
+// Writes what the loader of a part replies to a packet, and answers its size. The part with the larger image has no window.
+pub(crate) fn put_reply(part: Part, packet: &[u8], reply: &mut [u8]) -> io::Result<usize> {
+    if part.settings_size as usize == settings_large::IMAGE_SIZE {
+        let mut image = [0; settings_large::IMAGE_SIZE];
+        return put_reply_on(part, packet, &mut image, &mut [], reply);
+    }
+    let mut image = [0; settings::IMAGE_SIZE];
+    let mut window = [0; 3456];
+    put_reply_on(part, packet, &mut image, &mut window, reply)
 }

@@ -1,9 +1,15 @@
 // Printed frames, made whole by their core length, and whether they check.
 use arrayvec::{ArrayVec, CapacityError};
 use line::{CORE_AT, FIRST_AT, LENGTH_AT, PACKET_FRAME, codes};
+use std::io;
 
 // No packet of the documents has more bytes.
 pub(crate) const MOST: usize = 64;
+
+// No printed packet is too long; one that were would be told as a failed write is.
+pub(crate) fn too_long() -> io::Error {
+    io::Error::other("a printed packet is too long")
+}
 
 // How many bytes there should be. The core length decides: a frame has L + 7. Where nothing is printed from its place on, there is
 // no frame.

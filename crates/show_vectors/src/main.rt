@@ -7,11 +7,11 @@ mod documents;
 mod frames;
 mod pairs;
 
-use anyhow::Result;
 use documents::{FROM_000, FROM_004};
 use parts::{Am13e230x, Mspm0};
+use std::io;
 
-fn main(rt: HostRuntime) -> Result<()> {
+fn main(rt: HostRuntime) -> io::Result<()> {
     rt.println("Bytes that are printed, of those that the core length asks for:")?;
     pairs::show_all(&rt, Mspm0::part(), &FROM_004)?;
     pairs::show_all(&rt, Mspm0::part(), &FROM_000)?;

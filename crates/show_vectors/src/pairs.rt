@@ -1,10 +1,10 @@
 // A request and its reply as printed, and what the loader makes of the request.
 use crate::documents::Pair;
 use crate::{boards, frames};
-use anyhow::Result;
 use line::codes;
 use parts::Part;
 use program_io::Hex;
+use std::io;
 
 // A request is a frame; in a reply the acknowledgement stands before it.
 const REQUEST_AT: u8 = 0;
@@ -34,11 +34,11 @@ fn verdict(same: bool) -> &'static str {
 }
 
 // Sends a request to a board of a part.
-fn show(rt: &impl Print, part: Part, pair: Pair) -> Result<()> {
+fn show(rt: &impl Print, part: Part, pair: Pair) -> io::Result<()> {
     let request = pair.request;
-    let packet = frames::whole(request, REQUEST_AT)?;
+    let packet = frames::whole(request, REQUEST_AT).map_err(|_| frames::too_long())?;
     let printed = pair.reply;
-    let expected = frames::whole(printed, REPLY_AT)?;
+    let expected = frames::whole(printed, REPLY_AT).map_err(|_| frames::too_long())?;
     let code = line::acknowledge(part.last_rate, &packet)
         .err()
         .map_or(codes::ACKNOWLEDGED, u8::from);
@@ -53,12 +53,11 @@ fn show(rt: &impl Print, part: Part, pair: Pair) -> Result<()> {
         "{}:{}",
         verdict(octets::are_same(reply, &expected)),
         Hex(reply)
-    )?;
-    Ok(())
+    )
 }
 
 // Sends each request of a document to a board of a part, a new one for each.
-pub(crate) fn show_all(rt: &impl Print, part: Part, pairs: &[Pair]) -> Result<()> {
+pub(crate) fn show_all(rt: &impl Print, part: Part, pairs: &[Pair]) -> io::Result<()> {
     for &pair in pairs {
         show(rt, part, pair)?;
     }
