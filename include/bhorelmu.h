@@ -137,7 +137,7 @@ uint64_t bhorelmu_start(uint32_t fuse, const uint8_t *main_flash, size_t main_si
  * Lets `wait` milliseconds pass since the call before, or since start, then takes one packet, perhaps empty, and updates
  * the record, both flash areas and the window. Refusals 9, then 11, then 10 for an area that is no record's, for a MAIN of
  * another size than the record says, and for settings that are not 1,024 bytes. Bytes past the reply stay as lent.
- * Stack: 720 bytes on x86-64, 636 on thumbv6m.
+ * Stack: 704 bytes on x86-64, 636 on thumbv6m.
  */
 uint64_t bhorelmu_call(uint8_t *record, size_t record_size, uint8_t *main_flash, size_t main_size, uint8_t *settings,
                        size_t settings_size, uint8_t *window, size_t window_size, uint32_t wait, const uint8_t *packet,
@@ -155,21 +155,21 @@ uint64_t bhorelmu_settings_read(const uint8_t *image, size_t image_size, uint8_t
 /*
  * Makes a settings image around 140 bytes of fields, in the form that they name. Refusals 3, then 10 for a fields area of
  * another size, then 5 for a form that is neither 1 nor 2, then 8, then 41 for a name in form 1.
- * Stack: 320 bytes on x86-64, 452 on thumbv6m.
+ * Stack: 320 bytes on x86-64, 476 on thumbv6m.
  */
 uint64_t bhorelmu_settings_write(const uint8_t *fields, size_t fields_size, uint8_t *image, size_t image_size);
 
 /*
  * Moves a settings image of form 1 to form 2, where it lies, with a name of 0xFF. A blank image stays as it is. Refusals 3
  * to 8; 5 also for an image of form 2.
- * Stack: 288 bytes on x86-64, 436 on thumbv6m.
+ * Stack: 288 bytes on x86-64, 484 on thumbv6m.
  */
 uint64_t bhorelmu_settings_to_form_2(uint8_t *image, size_t image_size);
 
 /*
  * Moves a settings image of form 2 back to form 1, where it lies. A blank image stays as it is. Refusals 3 to 8, then 41 for
  * a name that is not all 0xFF; 5 also for an image of form 1.
- * Stack: 384 bytes on x86-64, 444 on thumbv6m.
+ * Stack: 384 bytes on x86-64, 484 on thumbv6m.
  */
 uint64_t bhorelmu_settings_to_form_1(uint8_t *image, size_t image_size);
 
@@ -180,7 +180,7 @@ uint64_t bhorelmu_settings_to_form_1(uint8_t *image, size_t image_size);
  * as it is, with counts of 0. Refusals 3, then 5 for an image that is not accepted and begins with form 2 and count 7, then
  * 10 for a counts area of another size. A bad byte in a kept body, a password's among them, cannot be seen, and the new
  * checksum seals it: docs/DEPOT.md.
- * Stack: 416 bytes on x86-64, 444 on thumbv6m.
+ * Stack: 416 bytes on x86-64, 492 on thumbv6m.
  */
 uint64_t bhorelmu_settings_mend(uint8_t *image, size_t image_size, uint8_t *counts, size_t counts_size);
 
@@ -207,7 +207,7 @@ uint32_t bhorelmu_rate(uint32_t id);
 /*
  * Begins a session, as bhorelmu_start without a window: refusals 1 to 8, then 10 for a record area of another size, the
  * MSPM0's 94 bytes among them.
- * Stack: 304 bytes on x86-64, 508 on thumbv6m.
+ * Stack: 304 bytes on x86-64, 500 on thumbv6m.
  */
 uint64_t bhorelmu_am13e230x_start(uint32_t fuse, const uint8_t *main_flash, size_t main_size, const uint8_t *settings,
                                   size_t settings_size, uint8_t *record, size_t record_size);
@@ -224,14 +224,14 @@ uint64_t bhorelmu_am13e230x_call(uint8_t *record, size_t record_size, uint8_t *m
  * Takes the 164 bytes of fields out of a settings image: bytes 60 to 221, then the form; or those of the blank settings out of
  * a blank one, 2,048 bytes 0xFF, which counts as form 2.
  * Refusals 3 to 8, then 10 for a fields area of another size. 7 also for a byte of 1,024 to 2,047 that is not 0xFF.
- * Stack: 336 bytes on x86-64, 548 on thumbv6m.
+ * Stack: 336 bytes on x86-64, 540 on thumbv6m.
  */
 uint64_t bhorelmu_am13e230x_settings_read(const uint8_t *image, size_t image_size, uint8_t *fields, size_t fields_size);
 
 /*
  * Makes a settings image around 164 bytes of fields, in its first 1,024 bytes, and 0xFF after. Refusals 3, then 10 for a fields
  * area of another size, then 5 for a form that is not 2, then 8.
- * Stack: 288 bytes on x86-64, 412 on thumbv6m.
+ * Stack: 288 bytes on x86-64, 460 on thumbv6m.
  */
 uint64_t bhorelmu_am13e230x_settings_write(const uint8_t *fields, size_t fields_size, uint8_t *image, size_t image_size);
 

@@ -11,7 +11,7 @@ import sys
 from public_functions import libraries, public_functions
 from wrong_programs import bare, blocks_in, files_of, programs_of
 
-PAST = {pathlib.Path("docs/PORT.md"), pathlib.Path("docs/DESIGN-PASS.md")}  # tell what had which name before, and are signed by nobody
+PAST = {pathlib.Path("docs/PORT.md"), pathlib.Path("docs/DESIGN-PASS.md"), pathlib.Path("docs/LOOK-BACK.md")}  # tell what had which name before, and are signed by nobody
 SIGNED = [path for path in sorted(pathlib.Path("docs").glob("*.md")) if path not in PAST] + [pathlib.Path("README.md")]
 PROMISES = pathlib.Path("docs/PROMISES.md")
 
